@@ -1,0 +1,15 @@
+//! The list types that every crate speaks in, and want of memory. Its `specs/` and `proofs/` have what is
+//! said of lists and numbers alone: ranges, assignments, row-major numbers and sums.
+#![tactic(auto)]
+
+mod bytes;
+mod coords;
+mod name;
+mod no_memory;
+mod numbers;
+
+pub use bytes::{Bytes, Lines};
+pub use coords::Coords;
+pub use name::{Name, Names};
+pub use no_memory::NoMemory;
+pub use numbers::{Extents, Numbers, Vars, Words};
