@@ -1,5 +1,5 @@
 -- Row-major numbers of indices.
-use Rattle.std.specs.Prelude.{◌≡◌, ℕ, ◌+◌, ◌*◌, List, [], ◌∷◌, Option, Some, None, nat_lt, if◌then◌else◌, option_map}
+use Rattle.std.specs.Prelude.{ℕ, ◌+◌, ◌*◌, List, [], ◌∷◌, Option, Some, None, nat_lt, if◌then◌else◌, option_map}
 
 -- the product of a list
 abbrev pub product : List ℕ → ℕ

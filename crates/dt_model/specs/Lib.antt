@@ -1,0 +1,6 @@
+pub mod Ring
+pub mod RingValue
+pub mod Shape
+pub mod Stmts
+pub mod Value
+pub mod WholeTensor

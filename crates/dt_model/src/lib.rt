@@ -1,0 +1,17 @@
+//! What a statement in index notation means: tensors, statements, the number that a statement gives at an
+//! index; and the causes for which a job is refused.
+#![tactic(auto)]
+
+mod cause;
+mod laws;
+mod shape;
+mod stmt;
+mod value;
+mod whole;
+
+pub use cause::Cause;
+pub use laws::value_is_a_ring_sum;
+pub use shape::Shape;
+pub use stmt::{Access, Factor, Factors, Stmt, Stmts, Term, Terms};
+pub use value::value_at;
+pub use whole::Whole;
