@@ -1,6 +1,10 @@
 //! Why a job is refused.
 
-use dt_base::Name;
+ghost use Rattle.std.specs.Prelude.{◌≡◌};
+ghost use Rattle.dt_model.specs.declared.cause.LineEnd.TheVariants.{NoMemory as LineNoMemory};
+
+use dt_base::{Name, NoMemory};
+use std::alloc::{AllocError, AllocFailed};
 
 /// The cause of a refused line. Names, letters and symbols are `Name`s, and take no memory.
 #[derive(Debug, Drop)]
@@ -129,4 +133,35 @@ pub enum Cause {
     WrongFactorCount,
     /// No kernel has the name.
     UnknownKernel,
+}
+
+/// Why a line, or a part of one, gives nothing.
+#[derive(Debug, Drop)]
+pub enum LineEnd {
+    Refused(Cause),
+    NoMemory,
+}
+
+impl From<NoMemory> for LineEnd {
+    ghost from_gives = { λ _ e. e ≡ LineNoMemory };
+
+    fn from(_error: NoMemory) -> LineEnd {
+        LineEnd::NoMemory
+    }
+}
+
+impl From<AllocError> for LineEnd {
+    ghost from_gives = { λ _ e. e ≡ LineNoMemory };
+
+    fn from(_error: AllocError) -> LineEnd {
+        LineEnd::NoMemory
+    }
+}
+
+impl<T: Drop> From<AllocFailed<T>> for LineEnd {
+    ghost from_gives = { λ _ e. e ≡ LineNoMemory };
+
+    fn from(_error: AllocFailed<T>) -> LineEnd {
+        LineEnd::NoMemory
+    }
 }

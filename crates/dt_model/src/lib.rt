@@ -9,7 +9,7 @@ mod stmt;
 mod value;
 mod whole;
 
-pub use cause::Cause;
+pub use cause::{Cause, LineEnd};
 pub use laws::value_is_a_ring_sum;
 pub use shape::Shape;
 pub use stmt::{Access, Factor, Factors, Stmt, Stmts, Term, Terms};
