@@ -1,0 +1,6 @@
+pub mod LineLemmas
+pub mod LineWords
+pub mod NumberLemmas
+pub mod Pieces
+pub mod TokenLemmas
+pub mod WordLemmas

@@ -1,0 +1,6 @@
+pub mod Lines
+pub mod Names
+pub mod Numbers
+pub mod Spans
+pub mod Tokens
+pub mod Words

@@ -1,0 +1,19 @@
+//! Lines, tokens, numbers and names of a text, and which bytes a line may have.
+#![tactic(auto)]
+
+mod line;
+mod line_tests;
+mod names;
+mod numbers;
+#[cfg(test)]
+mod tests;
+mod text_end;
+mod token_list;
+mod token_spans;
+
+pub use line::{Line, next_line};
+pub use names::is_name;
+pub use numbers::number;
+pub use text_end::TextEnd;
+pub use token_list::{Token, Tokens};
+pub use token_spans::{after_word, tokens, word, words};

@@ -1,0 +1,44 @@
+//! Numbers.
+
+ghost use Rattle.std.specs.Prelude.{◌≡◌, ◌≤◌, length};
+ghost use Rattle.std.specs.List.{AllPass, list_all};
+ghost use Rattle.dt_text.specs.Numbers.{number_of, digits_value, is_digit};
+
+/// The value of 1 to 20 digits, where it is below 2^64. Zeros may lead.
+pub fn number(text: &[u8]) -> Option<u64>
+    ensures { result ≡ number_of text.now }
+{
+    if text.is_empty() || text.len() > 20 || !are_digits(text) {
+        return None;
+    }
+    let value = value(text);
+    if value <= u128::from(u64::MAX) {
+        Some(value as u64)
+    } else {
+        None
+    }
+}
+
+fn value(digits: &[u8]) -> u128
+    requires few { length digits.now ≤ 20 }
+    requires digits { AllPass is_digit digits.now }
+    ensures { result ≡ digits_value digits.now }
+{
+    let mut value = 0u128;
+    for digit in digits {
+        value = value * 10 + u128::from(digit.saturating_sub(b'0'));
+    }
+    value
+}
+
+fn are_digits(text: &[u8]) -> bool
+    ensures { result ≡ list_all is_digit text.now }
+{
+    text.iter().all(|b| is_digit(*b))
+}
+
+pub(crate) fn is_digit(byte: u8) -> bool
+    ensures { result ≡ is_digit byte }
+{
+    48 <= byte && byte <= 57
+}
