@@ -9,6 +9,9 @@ mod standard;
 mod traits;
 mod writing;
 
+#[cfg(test)]
+mod tests;
+
 
 pub use ends::{Failed, ReadEnd};
 pub use memory::{MemSink, MemSource};
