@@ -17,8 +17,7 @@ rest-copied bytes rest buf new at n piece is_rest some count copied =
     ap (take n) copied ∙ ap (λ (k : ℕ). take k (take n rest ++ drop n buf)) (sym taken) ∙ take-append_seam (take n rest) (drop n buf) in
     let behind : drop (at + n) bytes ≡ drop n rest = sym (drop-drop n at bytes) ∙ ap (drop n) (sym is_rest) in
     let long : length new ≡ length (take n rest) + length (drop n buf) =
-    ap length copied ∙ length-append (take n rest) (drop n buf) in
-    (
+    ap length copied ∙ length-append (take n rest) (drop n buf) in (
       sym (take-append-drop n rest) ∙ ap (λ (f : List ℕ). f ++ drop n rest) (sym front) ∙ ap (λ (r : List ℕ). take n new ++ r) (sym behind),
       λ none room. behind ∙ drop_all n rest (omega (arith, length-drop n buf)),
     )

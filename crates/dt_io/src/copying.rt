@@ -8,7 +8,10 @@ use dt_base::Numbers;
 pub fn is_listed(fails: &Numbers, call: u64) -> bool
     ensures { IsTrue result ↔ Contains fails.now call }
 {
-    fails.as_slice().iter().any(|number| u64::from(*number) == call)
+    fails
+        .as_slice()
+        .iter()
+        .any(|number| u64::from(*number) == call)
 }
 
 /// Copies a front of the bytes, at most so many, to the front of the buffer.

@@ -9,13 +9,12 @@ mod standard;
 mod traits;
 mod writing;
 
-#[cfg(test)]
-mod tests;
-
-
 pub use ends::{Failed, ReadEnd};
 pub use memory::{MemSink, MemSource};
 pub use reading::read_all;
 pub use standard::{StdSink, StdSource};
 pub use traits::{Sink, Source};
 pub use writing::write_all;
+
+#[cfg(test)]
+mod tests;

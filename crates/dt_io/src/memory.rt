@@ -1,6 +1,6 @@
 //! A source and a sink in memory, which tell their bytes and fail at the calls that they are given.
 
-ghost use Rattle.std.specs.Prelude.{◌≡◌, ◌↔◌, ◌⊎◌, ◌≤◌, ◌<◌, ◌++◌, [], Some, Contains, IsErr, IfOk, OnErr, length, min, take, drop};
+ghost use Rattle.std.specs.Prelude.{◌≡◌, ◌↔◌, ◌⊎◌, ◌≤◌, ◌<◌, ◌++◌, [], Some, Contains, IsErr, IsOk, IfOk, OnErr, length, min, take, drop};
 ghost use Rattle.std.specs.Io.{ReadsAtMost, WritesAtMost};
 ghost use Rattle.std.specs.Io.KnownBytes.{ReadConsumes, WriteAppends};
 ghost use Rattle.dt_io.specs.Faults.{HasCause, one_more};
@@ -32,11 +32,11 @@ impl Model for MemSource {
     ghost Value = { SourceState };
 
     ghost view = { λ s. record {
-        left = drop s.at s.bytes;
-        piece = s.piece;
-        fails = s.fails;
-        calls = s.calls;
-        faults = s.faults
+      left = drop s.at s.bytes;
+      piece = s.piece;
+      fails = s.fails;
+      calls = s.calls;
+      faults = s.faults;
     } };
 
     ghost invariant = { λ s. (s.at ≤ length s.bytes) × (1 ≤ s.piece) };
@@ -73,14 +73,14 @@ impl Source for MemSource {
         ensures count { IfOk result (λ n. n ≡ min self.old.piece (min (length buf.old) (length self.old.left))) }
         ensures copied { IfOk result (λ n. buf.new ≡ take n self.old.left ++ drop n buf.old) }
         ensures after { IfOk result (λ n. self.new ≡ record self.old {
-            left = drop n self.old.left;
-            calls = one_more self.old.calls
+          left = drop n self.old.left;
+          calls = one_more self.old.calls;
         }) }
 
         ensures untouched { OnErr result (buf.new ≡ buf.old) }
         ensures after_err { OnErr result (self.new ≡ record self.old {
-            calls = one_more self.old.calls;
-            faults = one_more self.old.faults
+          calls = one_more self.old.calls;
+          faults = one_more self.old.faults;
         }) }
     {
         self.calls = self.calls.saturating_add(1);
@@ -114,12 +114,12 @@ impl Model for MemSink {
     ghost Value = { SinkState };
 
     ghost view = { λ s. record {
-        written = s.bytes.items;
-        room = s.room;
-        piece = s.piece;
-        fails = s.fails;
-        calls = s.calls;
-        faults = s.faults
+      written = s.bytes.items;
+      room = s.room;
+      piece = s.piece;
+      fails = s.fails;
+      calls = s.calls;
+      faults = s.faults;
     } };
 
     ghost invariant = { λ s. (length s.bytes.items ≤ s.room) × (s.room ≤ vec_capacity s.bytes) × (1 ≤ s.piece) };
@@ -130,14 +130,15 @@ impl MemSink {
     /// are to fail.
     pub fn new(alloc: Global, piece: u32, fails: Numbers, room: u32) -> Result<MemSink, NoMemory>
         requires { 1 ≤ piece }
-        ensures { IfOk result (λ s. s ≡ record {
-            written = [];
-            room = room;
-            piece = piece;
-            fails = fails;
-            calls = 0;
-            faults = 0
+        ensures made { IfOk result (λ s. s ≡ record {
+          written = [];
+          room = room;
+          piece = piece;
+          fails = fails;
+          calls = 0;
+          faults = 0;
         }) }
+        ensures no_room { room ≡ 0 → IsOk result }
     {
         let bytes = Vec::with_capacity(alloc, room as usize)?;
         Ok(MemSink {
@@ -172,12 +173,12 @@ impl Sink for MemSink {
             ⊎ ((room_left self.old ≡ 0) × (0 < length piece.now))) }
         ensures count { IfOk result (λ n. n ≡ min self.old.piece (min (room_left self.old) (length piece.now))) }
         ensures after { IfOk result (λ n. self.new ≡ record self.old {
-            written = self.old.written ++ take n piece.now;
-            calls = one_more self.old.calls
+          written = self.old.written ++ take n piece.now;
+          calls = one_more self.old.calls;
         }) }
         ensures after_err { OnErr result (self.new ≡ record self.old {
-            calls = one_more self.old.calls;
-            faults = one_more self.old.faults
+          calls = one_more self.old.calls;
+          faults = one_more self.old.faults;
         }) }
     {
         self.calls = self.calls.saturating_add(1);

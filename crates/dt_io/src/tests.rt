@@ -1,6 +1,8 @@
 //! Sources and sinks at work: pieces, calls that fail, limits, and room.
 
-use crate::{Failed, MemSink, MemSource, ReadEnd, Sink, Source, StdSink, StdSource, read_all, write_all};
+use crate::{
+    Failed, MemSink, MemSource, ReadEnd, Sink, Source, StdSink, StdSource, read_all, write_all,
+};
 use dt_base::{Bytes, Numbers};
 use std::io;
 use std::io::{ErrorKind, Read};
@@ -22,7 +24,11 @@ fn a_source_fails_at_its_listed_calls(rt: HostRuntime) -> Result<(), Fail> {
         let mut source = MemSource::new(bytes, piece, fails);
         let mut buf = [0; 3];
         for answer in answers {
-            assert_eq!(rt; source.read(&mut buf), answer, "pieces of {piece}, call {failing} fails");
+            assert_eq!(rt;
+                source.read(&mut buf),
+                answer,
+                "pieces of {piece}, call {failing} fails"
+            );
         }
     }
     Ok(())
@@ -47,10 +53,18 @@ fn reading_ends_at_the_end_the_limit_or_a_fault(rt: HostRuntime) -> Result<(), F
         match read_all(rt.alloc(), &mut source, limit) {
             Ok(all) => {
                 assert_eq!(rt; all.as_slice(), b"abcde".as_slice());
-                assert_eq!(rt; None, wanted, "pieces of {piece}, call {failing} fails, limit {limit}");
+                assert_eq!(rt;
+                    None,
+                    wanted,
+                    "pieces of {piece}, call {failing} fails, limit {limit}"
+                );
             }
             Err(end) => {
-                assert_eq!(rt; Some(end), wanted, "pieces of {piece}, call {failing} fails, limit {limit}");
+                assert_eq!(rt;
+                    Some(end),
+                    wanted,
+                    "pieces of {piece}, call {failing} fails, limit {limit}"
+                );
             }
         }
     }
@@ -70,8 +84,16 @@ fn writing_stops_at_a_fault_or_at_the_room(rt: HostRuntime) -> Result<(), Fail> 
         assert!(rt; piece > 0);
         let fails = Numbers::from_slice(rt.alloc(), &[failing])?;
         let mut sink = MemSink::new(rt.alloc(), piece, fails, room)?;
-        assert_eq!(rt; write_all(&mut sink, b"abcde"), answer, "pieces of {piece}, call {failing} fails, room {room}");
-        assert_eq!(rt; sink.written(), written.as_bytes(), "pieces of {piece}, call {failing} fails, room {room}");
+        assert_eq!(rt;
+            write_all(&mut sink, b"abcde"),
+            answer,
+            "pieces of {piece}, call {failing} fails, room {room}"
+        );
+        assert_eq!(rt;
+            sink.written(),
+            written.as_bytes(),
+            "pieces of {piece}, call {failing} fails, room {room}"
+        );
         assert_eq!(rt; sink.write(b""), Ok(0));
     }
     Ok(())
