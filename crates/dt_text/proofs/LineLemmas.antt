@@ -1,9 +1,9 @@
 -- The first line of a text.
-use Rattle.std.proofs.Common.{◌≡◌, ℕ, suc, ◌+◌, ◌-◌, ◌<◌, List, [], ◌∷◌, length, take, drop, get_or, Bool, true, false, not, arith, refl, sym, ap, ◌∙◌, subst}
+use Rattle.std.proofs.Common.{◌≡◌, ℕ, suc, ◌+◌, ◌-◌, ◌<◌, ◌≤◌, List, [], ◌∷◌, length, take, drop, get_or, Bool, true, false, not, arith, refl, sym, ap, ◌∙◌, subst}
 use Rattle.std.specs.List.{prefix_len}
 use Rattle.std.specs.Prelude.{slice_range}
 use Rattle.std.proofs.Math.Seq.{drop-cons}
-use Rattle.std.proofs.lemmas.List.{drop-drop}
+use Rattle.std.proofs.lemmas.List.{drop-drop, drop_all}
 use Rattle.dt_text.specs.Lines.{lines_of, is_line_end}
 use Rattle.dt_text.proofs.Pieces.{onto_more, drop_more_end}
 
@@ -36,3 +36,7 @@ line_at text at len h e =
     let n : (at + len) - at ≡ len = omega arith in
     let m : drop (at + len + 1) text ≡ drop (len + 1) (drop at text) = ap (λ (k : ℕ). drop k text) (omega arith) ∙ sym (drop-drop (len + 1) at text) in
     rw (n, m, e) first
+
+-- no line begins at the end
+pub lines_of-end : (text : List ℕ) (at : ℕ) → length text ≤ at → lines_of (drop at text) ≡ []
+lines_of-end text at h = rw (drop_all at text h) refl

@@ -2,7 +2,7 @@
 #![tactic(auto)]
 
 mod line;
-mod line_tests;
+mod line_bytes;
 mod names;
 mod numbers;
 #[cfg(test)]

@@ -14,7 +14,7 @@ pub fn is_name(text: &[u8]) -> bool
 {
     match text {
         [] => false,
-        [first, rest @ ..] => { is_letter(*first) && are_name_bytes(rest) && text.len() <= 16 }
+        [first, rest @ ..] => is_letter(*first) && are_name_bytes(rest) && text.len() <= 16,
     }
 }
 
@@ -27,7 +27,7 @@ fn are_name_bytes(text: &[u8]) -> bool
 fn is_letter(byte: u8) -> bool
     ensures { result ≡ is_letter byte }
 {
-    (65 <= byte && byte <= 90) || (97 <= byte && byte <= 122)
+    matches!(byte, b'A'..=b'Z' | b'a'..=b'z')
 }
 
 fn is_name_byte(byte: u8) -> bool

@@ -11,12 +11,7 @@ pub fn number(text: &[u8]) -> Option<u64>
     if text.is_empty() || text.len() > 20 || !are_digits(text) {
         return None;
     }
-    let value = value(text);
-    if value <= u128::from(u64::MAX) {
-        Some(value as u64)
-    } else {
-        None
-    }
+    u64::try_from(value(text)).ok()
 }
 
 fn value(digits: &[u8]) -> u128
@@ -26,7 +21,7 @@ fn value(digits: &[u8]) -> u128
 {
     let mut value = 0u128;
     for digit in digits {
-        value = value * 10 + u128::from(digit.saturating_sub(b'0'));
+        value = value * 10 + u128::from(digit - b'0');
     }
     value
 }
@@ -40,5 +35,5 @@ fn are_digits(text: &[u8]) -> bool
 pub(crate) fn is_digit(byte: u8) -> bool
     ensures { result ≡ is_digit byte }
 {
-    48 <= byte && byte <= 57
+    matches!(byte, b'0'..=b'9')
 }

@@ -7,7 +7,7 @@ ghost use Rattle.dt_text.specs.Spans.{token_in, IsToken, AreSpans};
 ghost use Rattle.dt_text.specs.Words.{line_words, GivesWords};
 
 use crate::line::Line;
-use crate::line_tests::{bad_place, behind_blanks, is_blank, is_skipped};
+use crate::line_bytes::{bad_place, behind_blanks, is_blank, is_skipped};
 use crate::text_end::TextEnd;
 use crate::token_list::{Token, Tokens};
 use dt_base::NoMemory;

@@ -49,11 +49,11 @@ fn blanks(text: &[u8]) -> usize
 pub(crate) fn is_blank(byte: u8) -> bool
     ensures { result ≡ is_blank byte }
 {
-    byte == b' ' || byte == b'\t'
+    matches!(byte, b' ' | b'\t')
 }
 
 fn is_line_byte(byte: u8) -> bool
     ensures { result ≡ is_line_byte byte }
 {
-    is_blank(byte) || (33 <= byte && byte <= 126)
+    is_blank(byte) || matches!(byte, b'!'..=b'~')
 }
