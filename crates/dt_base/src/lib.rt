@@ -7,6 +7,8 @@ mod coords;
 mod name;
 mod no_memory;
 mod numbers;
+#[cfg(test)]
+mod tests;
 
 pub use bytes::{Bytes, Lines};
 pub use coords::Coords;

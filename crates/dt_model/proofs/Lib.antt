@@ -1,4 +1,6 @@
 pub mod Accesses
+pub mod Fronts
+pub mod LawfulFacts
 pub mod RingLaws
 pub mod ShapeFacts
 pub mod StmtFacts

@@ -11,7 +11,7 @@ use Rattle.dt_model.specs.declared.stmt.Factor.{Factor}
 use Rattle.dt_model.specs.declared.stmt.Factor.TheVariants.{Read, Literal}
 use Rattle.dt_model.specs.declared.stmt.Stmt.{Stmt}
 
-length-below : (n : ℕ) → length (below n) ≡ n
+pub length-below : (n : ℕ) → length (below n) ≡ n
 length-below zero = refl
 length-below (suc n) = rw length-append (omega (arith, length-below n))
 

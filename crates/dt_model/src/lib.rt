@@ -3,13 +3,17 @@
 #![tactic(auto)]
 
 mod cause;
+mod lawful;
 mod laws;
 mod shape;
 mod stmt;
+#[cfg(test)]
+mod tests;
 mod value;
 mod whole;
 
 pub use cause::{Cause, LineEnd};
+pub use lawful::{is_index, is_stmt};
 pub use laws::value_is_a_ring_sum;
 pub use shape::Shape;
 pub use stmt::{Access, Factor, Factors, Stmt, Stmts, Term, Terms};

@@ -8,7 +8,7 @@ ghost use Rattle.dt_model.specs.Value.{value_of, term_value, factor_value, acces
 use crate::stmt::{Access, Factor, Stmt};
 use crate::whole::Whole;
 
-fn tensor_at(tensors: &[Whole], at: usize) -> Option<&Whole>
+pub(crate) fn tensor_at(tensors: &[Whole], at: usize) -> Option<&Whole>
     ensures { option_copied result ≡ slice_get tensors.now at }
 {
     tensors.get(at)

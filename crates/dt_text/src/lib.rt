@@ -12,7 +12,8 @@ mod token_list;
 mod token_spans;
 
 pub use line::{Line, next_line};
-pub use names::is_name;
+pub use line_bytes::behind_blanks;
+pub use names::{is_name, is_name_byte};
 pub use numbers::number;
 pub use text_end::TextEnd;
 pub use token_list::{Token, Tokens};

@@ -31,7 +31,7 @@ fn bad_index(plain: &[u8]) -> Option<usize>
 }
 
 /// What stands behind the blanks at the front of a text.
-pub(crate) fn behind_blanks(text: &[u8]) -> &[u8]
+pub fn behind_blanks(text: &[u8]) -> &[u8]
     ensures bytes { result.now ≡ behind_blanks text.now }
     ensures within { length result.now ≤ length text.now }
 {

@@ -30,7 +30,8 @@ fn is_letter(byte: u8) -> bool
     matches!(byte, b'A'..=b'Z' | b'a'..=b'z')
 }
 
-fn is_name_byte(byte: u8) -> bool
+/// Whether a byte can stand in a name behind its first letter.
+pub fn is_name_byte(byte: u8) -> bool
     ensures { result ≡ is_name_byte byte }
 {
     is_letter(byte) || is_digit(byte) || byte == b'_'
