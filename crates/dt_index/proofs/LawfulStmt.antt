@@ -1,0 +1,120 @@
+-- A statement that passes all tests is one over the tensors that are known.
+use Rattle.std.proofs.Common.{◌≡◌, ℕ, ◌<◌, ◌≤◌, List, [], ◌++◌, length, get_or, map, refl, ap, sym, ◌∙◌, arith, Bool, true, false, not, All, Option, Some, None, slice_index, slice_get, unwrap_or, option_map, is_none, nat_le}
+use Rattle.std.specs.Prelude.{find, count_by, ◌==◌}
+use Rattle.std.specs.List.{flat_map}
+use Rattle.std.specs.Str.{bytes_eq}
+use Rattle.std.proofs.lemmas.Bool.{eqb-true}
+use Rattle.std.proofs.lemmas.List.{length-map}
+use Rattle.std.proofs.lemmas.List.Elements.{All-head, All-tail, All-cons, All-nil, All-map}
+use Rattle.std.proofs.lemmas.List.Quantifiers.{position-Some}
+use Rattle.std.proofs.lemmas.Option.{slice_get-map, slice_get-get_or}
+use Rattle.dt_base.specs.Ranges.{below}
+use Rattle.dt_model.specs.Stmts.{IsStmt, IsAccess, IsFactor, IsTerm}
+use Rattle.dt_model.specs.declared.stmt.Factor.TheVariants.{Read}
+use Rattle.dt_index.specs.Known.{Known, place_of, known_extents, shapes_of_known}
+use Rattle.dt_index.specs.Resolve.{accesses_of, named_extents, access_occurrences, occurrences, distinct, variables_of, extent_of, unknown_tensor, wrong_order, lhs_repeats, extent_clash, number_in, numbered, stmt_of}
+use Rattle.dt_index.specs.declared.form.Form.{Form}
+use Rattle.dt_index.specs.declared.form.NamedAccess.{NamedAccess}
+use Rattle.dt_index.specs.declared.occurrence_list.Occurrence.{Occurrence}
+use Rattle.dt_index.proofs.NameFacts.{Differ, has, has-distinct, has-at, place-inside, number_in-place, numbers_back, numbers-front, distinct-front, none_twice}
+use Rattle.dt_index.proofs.OccurrenceFacts.{find_none, option_map-none, first_extents, All-flat_map, extents_match}
+
+-- what the tests say of an access
+pub record Passes (tensors : List Known) (names : List (List ℕ)) (os : List Occurrence) (a : NamedAccess) : Type 0 where
+  pub known : is_none (place_of a.tensor tensors) ≡ false
+  pub order : length a.vars ≡ length (named_extents tensors a.tensor)
+  pub few : length (named_extents tensors a.tensor) ≤ 4
+  pub members : All (λ v. has names v ≡ true) a.vars
+  pub extents : map (extent_of os) a.vars ≡ named_extents tensors a.tensor
+
+fitting : (tensors : List Known) (o : Option ℕ) → is_none o ≡ false → ((k : ℕ) → o ≡ Some k → k < length tensors)
+    → slice_get (shapes_of_known tensors) (unwrap_or o 0) ≡ Some (unwrap_or (option_map (known_extents tensors) o) [])
+fitting tensors None h l = cc
+fitting tensors (Some k) h l =
+    let dummy : Known = record { name = []; extents = []; dense = true } in
+    let there : slice_get tensors k ≡ Some (get_or tensors k dummy) = slice_get-get_or tensors k dummy (l k refl) in
+    slice_get-map (λ t. t.extents) tensors k ∙ rw there refl
+
+-- a known tensor has the extents that its name gives
+pub shape_there : (tensors : List Known) (name : List ℕ) → is_none (place_of name tensors) ≡ false
+    → slice_get (shapes_of_known tensors) (unwrap_or (place_of name tensors) 0) ≡ Some (named_extents tensors name)
+shape_there tensors name h =
+    let dummy : Known = record { name = []; extents = []; dense = true } in
+    fitting tensors (place_of name tensors) h (λ k e. (position-Some (λ t. bytes_eq t.name name) tensors k dummy e).0)
+
+-- an access that passes is lawful by numbers
+pub lawful_access : (tensors : List Known) (names : List (List ℕ)) (os : List Occurrence) (a : NamedAccess) → Passes tensors names os a
+    → IsAccess (shapes_of_known tensors) (map (extent_of os) names) (numbered tensors names a)
+lawful_access tensors names os a h =
+    let back : map (λ v. slice_index (map (extent_of os) names) v) (map (number_in names) a.vars) ≡ named_extents tensors a.tensor = numbers_back (extent_of os) names a.vars h.members ∙ h.extents in
+    record {
+      variables = (
+        omega (arith, length-map a.vars (number_in names), h.order, h.few),
+        All-map (λ v. v < length (map (extent_of os) names)) (number_in names) a.vars
+            (λ k d l. let inside : has names (get_or a.vars k d) ≡ true = h.members k d l in
+            omega (arith, length-map names (extent_of os), place-inside names (get_or a.vars k d) inside, number_in-place names (get_or a.vars k d) inside)),
+      );
+      fits = shape_there tensors a.tensor h.known ∙ ap (λ (ns : List ℕ). Some ns) (sym back);
+    }
+
+not_not : (b : Bool) → not b ≡ false → b ≡ true
+not_not true h = refl
+not_not false h = cc
+
+-- all names of a statement's text
+abbrev names_in : List NamedAccess → List (List ℕ)
+names_in accesses = flat_map (λ a. a.vars) accesses
+
+-- each access of a statement whose tests find nothing passes
+pub all_pass : (tensors : List Known) (f : Form) → unknown_tensor tensors f ≡ None → wrong_order tensors f ≡ None → extent_clash (occurrences tensors f) ≡ None
+    → All (λ a. length (named_extents tensors a.tensor) ≤ 4) (accesses_of f) → All (λ a. Passes tensors (variables_of f) (occurrences tensors f) a) (accesses_of f)
+all_pass tensors f u w e few k d l =
+    let a : NamedAccess = get_or (accesses_of f) k d in
+    let names : List (List ℕ) = names_in (accesses_of f) in
+    let os : List Occurrence = occurrences tensors f in
+    let unknown : find (λ a. is_none (place_of a.tensor tensors)) (accesses_of f) ≡ None = option_map-none _ (find (λ a. is_none (place_of a.tensor tensors)) (accesses_of f)) u in
+    let wrong : find (λ a. not (length a.vars == length (named_extents tensors a.tensor))) (accesses_of f) ≡ None = option_map-none _ (find (λ a. not (length a.vars == length (named_extents tensors a.tensor))) (accesses_of f)) w in
+    let order : length a.vars ≡ length (named_extents tensors a.tensor) =
+    eqb-true (length a.vars) (length (named_extents tensors a.tensor)) (not_not (length a.vars == length (named_extents tensors a.tensor)) (find_none (λ a. not (length a.vars == length (named_extents tensors a.tensor))) (accesses_of f) k d wrong l)) in
+    let inside : All (λ v. has names v ≡ true) a.vars = All-flat_map (λ v. has names v ≡ true) (λ a. a.vars) (accesses_of f) (λ j e m. has-at names j e m) k d l in
+    let firsts : All (λ o. extent_of os o.name ≡ o.extent) (access_occurrences tensors a) =
+    All-flat_map (λ o. extent_of os o.name ≡ o.extent) (access_occurrences tensors) (accesses_of f) (first_extents os e) k d l in
+    record {
+      known = find_none (λ a. is_none (place_of a.tensor tensors)) (accesses_of f) k d unknown l;
+      order = order;
+      few = few k d l;
+      members = λ j e m. has-distinct names (get_or a.vars j e) ∙ inside j e m;
+      extents = extents_match os a.vars (named_extents tensors a.tensor) order firsts;
+    }
+
+-- the left variables are numbered 0, 1, .. where none stands twice
+pub left_numbers : (tensors : List Known) (f : Form) → lhs_repeats f ≡ None → map (number_in (variables_of f)) f.lhs.vars ≡ below (length (map (number_in (variables_of f)) f.lhs.vars))
+left_numbers tensors f h =
+    let vars : List (List ℕ) = f.lhs.vars in
+    let differ : Differ vars = none_twice vars (option_map-none _ (find (λ v. nat_le 2 (count_by (λ w. bytes_eq w v) vars)) vars) h) in
+    let front : (zs : List (List ℕ)) × (distinct (vars ++ names_in f.factors) ≡ vars ++ zs) = distinct-front vars (names_in f.factors) differ in
+    rw (length-map vars (number_in (variables_of f))) (ap (λ (z : List (List ℕ)). map (number_in z) vars) front.1 ∙ numbers-front vars front.0 differ)
+
+-- a statement whose tests find nothing is lawful
+pub lawful_stmt : (tensors : List Known) (f : Form) → unknown_tensor tensors f ≡ None → wrong_order tensors f ≡ None → lhs_repeats f ≡ None → extent_clash (occurrences tensors f) ≡ None
+    → length (variables_of f) ≤ 8 → All (λ a. length (named_extents tensors a.tensor) ≤ 4) (accesses_of f) → IsStmt (shapes_of_known tensors) (stmt_of tensors f)
+lawful_stmt tensors f u w r e n few =
+    let names : List (List ℕ) = variables_of f in
+    let os : List Occurrence = occurrences tensors f in
+    let shapes : List (List ℕ) = shapes_of_known tensors in
+    let extents : List ℕ = map (extent_of os) names in
+    let each : All (λ a. Passes tensors names os a) (accesses_of f) = all_pass tensors f u w e few in
+    let lawful : All (λ a. IsAccess shapes extents (numbered tensors names a)) (accesses_of f) = λ k d l. lawful_access tensors names os (get_or (accesses_of f) k d) (each k d l) in
+    record {
+      few = omega (arith, length-map names (extent_of os));
+      left = left_numbers tensors f r;
+      target = All-head (λ a. IsAccess shapes extents (numbered tensors names a)) f.lhs f.factors lawful;
+      terms = All-cons (IsTerm shapes extents) (record { minus = false; factors = map (λ a. Read (numbered tensors names a)) f.factors }) []
+          (All-map (IsFactor shapes extents) (λ a. Read (numbered tensors names a)) f.factors (All-tail (λ a. IsAccess shapes extents (numbered tensors names a)) f.lhs f.factors lawful))
+          (All-nil (IsTerm shapes extents));
+    }
+
+-- an answer that no case takes is none
+pub none_left : {X : Type 0} (answer offender : Option X) → answer ≡ offender → ((x : X) → answer ≡ Some x → ⊥) → offender ≡ None
+none_left None offender e h = sym e
+none_left (Some x) offender e h = absurd (h x refl)

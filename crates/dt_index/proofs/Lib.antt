@@ -1,0 +1,5 @@
+pub mod LawfulStmt
+pub mod NameFacts
+pub mod OccurrenceFacts
+pub mod Pieces
+pub mod SymbolSteps

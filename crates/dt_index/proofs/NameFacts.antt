@@ -1,0 +1,213 @@
+-- Lists of names: which names they have, without repeats, and at which places.
+use Rattle.std.proofs.Common.{◌≡◌, ℕ, zero, suc, ◌+◌, ◌<◌, ◌≤◌, take, List, [], ◌∷◌, ◌++◌, length, get_or, map, refl, ap, sym, ◌∙◌, arith, Bool, true, false, cond, not, ◌||◌, All, Option, Some, None, nat_le, inl, inr, length-append, slice_index}
+use Rattle.std.specs.Prelude.{filter, find, count_by}
+use Rattle.std.specs.List.{list_any, position_or_len}
+use Rattle.std.specs.Str.{bytes_eq}
+use Rattle.std.proofs.lemmas.Bool.{or_parts, lt-ltb, leb-false, cases_lt}
+use Rattle.std.proofs.lemmas.Bool.Decides.{same_from_decides}
+use Rattle.std.proofs.lemmas.Slice.Eq.{bytes_eq-Decides}
+use Rattle.std.proofs.lemmas.List.{append-nil, append_assoc, take_more, length-map, get_or-map, same_lists, get_or_append_left, get_or_at}
+use Rattle.std.proofs.lemmas.List.Elements.{filter-append, All-head, All-tail}
+use Rattle.std.proofs.lemmas.List.Folds.{list_any_at, list_any-append}
+use Rattle.std.proofs.lemmas.List.Sums.{sum_by-cons}
+use Rattle.dt_base.specs.Ranges.{below}
+use Rattle.dt_index.specs.Resolve.{distinct, number_in}
+
+-- whether the list has the name
+abbrev pub has : List (List ℕ) → List ℕ → Bool
+has names v = list_any (λ w. bytes_eq w v) names
+
+-- the place of a name
+abbrev pub place : List (List ℕ) → List ℕ → ℕ
+place names v = position_or_len (λ w. bytes_eq w v) names
+
+-- the list without a name
+abbrev pub without : List ℕ → List (List ℕ) → List (List ℕ)
+without x names = filter (λ w. not (bytes_eq w x)) names
+
+-- no name stands twice
+abbrev pub Differ : List (List ℕ) → Type 0
+Differ [] = Unit {0}
+Differ (x ∷ xs) = (has xs x ≡ false) × Differ xs
+
+pub bytes_eq-same : (a b : List ℕ) → bytes_eq a b ≡ true → a ≡ b
+bytes_eq-same a b h = (bytes_eq-Decides a b).0 h
+
+pub bytes_eq-refl : (a : List ℕ) → bytes_eq a a ≡ true
+bytes_eq-refl a = (bytes_eq-Decides a a).1 refl
+
+pub bytes_eq-swap : (a b : List ℕ) → bytes_eq a b ≡ bytes_eq b a
+bytes_eq-swap a b = same_from_decides (bytes_eq a b) (bytes_eq b a) (bytes_eq-Decides a b) (λ t. sym (bytes_eq-same b a t), λ e. (bytes_eq-Decides b a).1 (sym e))
+
+kept_step : (x v y : List ℕ) (ys kept : List (List ℕ)) (b : Bool) → bytes_eq y x ≡ b → bytes_eq x v ≡ false
+    → has kept v ≡ has ys v → has (cond (not b) (y ∷ kept) kept) v ≡ (bytes_eq y v || has ys v)
+kept_step x v y ys kept true t d ih =
+    let gone : bytes_eq y v ≡ false = ap (λ (z : List ℕ). bytes_eq z v) (bytes_eq-same y x t) ∙ d in
+    rw gone ih
+kept_step x v y ys kept false t d ih = ap (λ (z : Bool). bytes_eq y v || z) ih
+
+-- a list without one name has the other names as before
+pub has-without : (x v : List ℕ) (ys : List (List ℕ)) → bytes_eq x v ≡ false → has (without x ys) v ≡ has ys v
+has-without x v [] d = refl
+has-without x v (y ∷ ys) d = kept_step x v y ys (without x ys) (bytes_eq y x) refl d (has-without x v ys d)
+
+distinct_step : (x v : List ℕ) (xs : List (List ℕ)) (b : Bool) → bytes_eq x v ≡ b → has (distinct xs) v ≡ has xs v → (b || has (without x (distinct xs)) v) ≡ (b || has xs v)
+distinct_step x v xs true t ih = refl
+distinct_step x v xs false t ih = has-without x v (distinct xs) t ∙ ih
+
+-- without repeats a list has the same names
+pub has-distinct : (xs : List (List ℕ)) (v : List ℕ) → has (distinct xs) v ≡ has xs v
+has-distinct [] v = refl
+has-distinct (x ∷ xs) v = distinct_step x v xs (bytes_eq x v) refl (has-distinct xs v)
+
+pushed_step : (x v : List ℕ) (d : List (List ℕ)) (e b : Bool) → bytes_eq v x ≡ e
+    → x ∷ without x (cond b d (d ++ v ∷ [])) ≡ cond (e || b) (x ∷ without x d) ((x ∷ without x d) ++ v ∷ [])
+pushed_step x v d true true t = refl
+pushed_step x v d true false t = rw (filter-append, t) (ap (λ (z : List (List ℕ)). x ∷ z) (append-nil (without x d)))
+pushed_step x v d false true t = refl
+pushed_step x v d false false t = rw (filter-append, t) refl
+
+-- one more name, which counts only where it is new
+pub distinct-push : (xs : List (List ℕ)) (v : List ℕ) → distinct (xs ++ v ∷ []) ≡ cond (has xs v) (distinct xs) (distinct xs ++ v ∷ [])
+distinct-push [] v = refl
+distinct-push (x ∷ xs) v =
+    ap (λ (z : List (List ℕ)). x ∷ without x z) (distinct-push xs v) ∙ pushed_step x v (distinct xs) (bytes_eq x v) (has xs v) (bytes_eq-swap v x)
+
+place_step : (x v : List ℕ) (xs : List (List ℕ)) (b : Bool) → (has xs v ≡ true → place xs v < length xs) → (b || has xs v) ≡ true → cond (not b) (1 + place xs v) 0 < length (x ∷ xs)
+place_step x v xs true ih h = omega arith
+place_step x v xs false ih h = omega (arith, ih h)
+
+-- a name of the list has a place in it
+pub place-inside : (xs : List (List ℕ)) (v : List ℕ) → has xs v ≡ true → place xs v < length xs
+place-inside [] v h = cc
+place-inside (x ∷ xs) v h = place_step x v xs (bytes_eq x v) (place-inside xs v) h
+
+-- the number of a name of the list is its place
+pub number_in-place : (xs : List (List ℕ)) (v : List ℕ) → has xs v ≡ true → number_in xs v ≡ place xs v
+number_in-place xs v h = rw (lt-ltb (place xs v) (length xs) (place-inside xs v h)) refl
+
+value_step : (g : List ℕ → ℕ) (x v : List ℕ) (xs : List (List ℕ)) (b : Bool) → bytes_eq x v ≡ b → (has xs v ≡ true → get_or (map g xs) (place xs v) 0 ≡ g v) → (b || has xs v) ≡ true
+    → get_or (g x ∷ map g xs) (cond (not b) (1 + place xs v) 0) 0 ≡ g v
+value_step g x v xs true t ih h = ap g (bytes_eq-same x v t)
+value_step g x v xs false t ih h = (let next : 1 + place xs v ≡ suc (place xs v) = omega arith in rw next (ih h))
+
+-- what belongs to a name stands at its place
+pub value-place : (g : List ℕ → ℕ) (xs : List (List ℕ)) (v : List ℕ) → has xs v ≡ true → get_or (map g xs) (place xs v) 0 ≡ g v
+value-place g [] v h = cc
+value-place g (x ∷ xs) v h = value_step g x v xs (bytes_eq x v) refl (value-place g xs v) h
+
+-- numbers of names lead back to what belongs to the names
+pub numbers_back : (g : List ℕ → ℕ) (xs us : List (List ℕ)) → All (λ v. has xs v ≡ true) us → map (λ n. slice_index (map g xs) n) (map (number_in xs) us) ≡ map g us
+numbers_back g xs [] h = refl
+numbers_back g xs (u ∷ us) h =
+    let here : has xs u ≡ true = All-head (λ v. has xs v ≡ true) u us h in
+    let first : get_or (map g xs) (number_in xs u) 0 ≡ g u = ap (λ (k : ℕ). get_or (map g xs) k 0) (number_in-place xs u here) ∙ value-place g xs u here in
+    ap (λ (n : ℕ). n ∷ map (λ n. slice_index (map g xs) n) (map (number_in xs) us)) first ∙ ap (λ (ns : List ℕ). g u ∷ ns) (numbers_back g xs us (All-tail (λ v. has xs v ≡ true) u us h))
+
+-- a name that the list lacks stands at none of its places
+pub lacks : (xs : List (List ℕ)) (x : List ℕ) (k : ℕ) (d : List ℕ) → has xs x ≡ false → k < length xs → bytes_eq (get_or xs k d) x ≡ false
+lacks [] x k d h l = absurd (omega arith)
+lacks (y ∷ ys) x zero d h l = (or_parts (bytes_eq y x) (has ys x) h).0
+lacks (y ∷ ys) x (suc k) d h l = lacks ys x k d (or_parts (bytes_eq y x) (has ys x) h).1 (omega arith)
+
+-- the names of a front without repeats have their indices as places
+pub place-front : (xs zs : List (List ℕ)) (k : ℕ) (d : List ℕ) → Differ xs → k < length xs → place (xs ++ zs) (get_or xs k d) ≡ k
+place-front [] zs k d h l = absurd (omega arith)
+place-front (x ∷ xs) zs zero d h l = rw (bytes_eq-refl x) refl
+place-front (x ∷ xs) zs (suc k) d h l =
+    let other : bytes_eq x (get_or xs k d) ≡ false = bytes_eq-swap x (get_or xs k d) ∙ lacks xs x k d h.0 (omega arith) in
+    rw other (omega (arith, place-front xs zs k d h.1 (omega arith)))
+
+-- a list has the name at each of its places
+pub has-at : (xs : List (List ℕ)) (k : ℕ) (d : List ℕ) → k < length xs → has xs (get_or xs k d) ≡ true
+has-at xs k d l = list_any_at (λ w. bytes_eq w (get_or xs k d)) xs k d l (bytes_eq-refl (get_or xs k d))
+
+-- a name of the front is one of the whole
+pub has-front : (xs zs : List (List ℕ)) (v : List ℕ) → has xs v ≡ true → has (xs ++ zs) v ≡ true
+has-front xs zs v h = list_any-append (λ w. bytes_eq w v) xs zs ∙ ap (λ (b : Bool). b || has zs v) h
+
+length-below : (n : ℕ) → length (below n) ≡ n
+length-below zero = refl
+length-below (suc n) = rw length-append (omega (arith, length-below n))
+
+get_or-below : (n k : ℕ) (d : ℕ) → k < n → get_or (below n) k d ≡ k
+get_or-below zero k d l = absurd (omega arith)
+get_or-below (suc n) k d l = elim (cases_lt k n) [
+  | inl less ↦ get_or_append_left (below n) (n ∷ []) d k (omega (arith, length-below n)) ∙ get_or-below n k d less
+  | inr more ↦ (let last : k ≡ n = omega arith in get_or_at (below n) n [] d k (omega (arith, length-below n)) ∙ sym last)
+]
+
+-- the names of a front without repeats are numbered 0, 1, ..
+pub numbers-front : (xs zs : List (List ℕ)) → Differ xs → map (number_in (xs ++ zs)) xs ≡ below (length xs)
+numbers-front xs zs h =
+    same_lists (map (number_in (xs ++ zs)) xs) (below (length xs)) (length-map xs (number_in (xs ++ zs)) ∙ sym (length-below (length xs)))
+    (λ k d l. let inside : k < length xs = omega (arith, length-map xs (number_in (xs ++ zs))) in
+    get_or-map (number_in (xs ++ zs)) xs k [] d inside ∙ number_in-place (xs ++ zs) (get_or xs k []) (has-front xs zs (get_or xs k []) (has-at xs k [] inside))
+    ∙ place-front xs zs k [] h inside ∙ sym (get_or-below (length xs) k d inside))
+
+without_lacking : (x : List ℕ) (xs : List (List ℕ)) → has xs x ≡ false → without x xs ≡ xs
+without_lacking x [] h = refl
+without_lacking x (y ∷ ys) h =
+    let parts : (bytes_eq y x ≡ false) × (has ys x ≡ false) = or_parts (bytes_eq y x) (has ys x) h in
+    rw parts.0 (ap (λ (z : List (List ℕ)). y ∷ z) (without_lacking x ys parts.1))
+
+-- a front without repeats stays as it is
+pub distinct-front : (xs ys : List (List ℕ)) → Differ xs → (zs : List (List ℕ)) × (distinct (xs ++ ys) ≡ xs ++ zs)
+distinct-front [] ys h = (distinct ys, refl)
+distinct-front (x ∷ xs) ys h =
+    let rest : (zs : List (List ℕ)) × (distinct (xs ++ ys) ≡ xs ++ zs) = distinct-front xs ys h.1 in
+    (without x rest.0, ap (λ (z : List (List ℕ)). x ∷ without x z) rest.1 ∙ ap (λ (z : List (List ℕ)). x ∷ z) (filter-append (λ w. not (bytes_eq w x)) xs rest.0 ∙ ap (λ (z : List (List ℕ)). z ++ without x rest.0) (without_lacking x xs h.0)))
+
+-- how often a name stands in the list
+abbrev pub times : List (List ℕ) → List ℕ → ℕ
+times names v = count_by (λ w. bytes_eq w v) names
+
+lacks_step : (x v : List ℕ) (xs : List (List ℕ)) (b : Bool) → cond b 1 0 + times xs v ≡ 0 → (times xs v ≡ 0 → has xs v ≡ false) → (b || has xs v) ≡ false
+lacks_step x v xs true h ih = absurd (omega arith)
+lacks_step x v xs false h ih = ih (omega arith)
+
+lacks_uncounted : (xs : List (List ℕ)) (v : List ℕ) → times xs v ≡ 0 → has xs v ≡ false
+lacks_uncounted [] v h = refl
+lacks_uncounted (x ∷ xs) v h =
+    lacks_step x v xs (bytes_eq x v) (sym (sum_by-cons (λ w. cond (bytes_eq w v) 1 0) x xs) ∙ h) (lacks_uncounted xs v)
+
+times-rest : (x v : List ℕ) (xs : List (List ℕ)) → times xs v ≤ times (x ∷ xs) v
+times-rest x v xs = rw (sum_by-cons (λ w. cond (bytes_eq w v) 1 0) x xs) (omega arith)
+
+once_step : (x : List ℕ) (xs : List (List ℕ)) (n : ℕ) (b : Bool) (rest : Option (List ℕ)) → nat_le 2 n ≡ b → times (x ∷ xs) x ≤ n → cond b (Some x) rest ≡ None → (has xs x ≡ false) × (rest ≡ None)
+once_step x xs n true rest t l h = cc
+once_step x xs n false rest t l h =
+    let few : n < 2 = leb-false 2 n t in
+    let more : times (x ∷ xs) x ≡ 1 + times xs x = sum_by-cons (λ w. cond (bytes_eq w x) 1 0) x xs ∙ ap (λ (b : Bool). cond {A = ℕ} b 1 0 + times xs x) (bytes_eq-refl x) in
+    (lacks_uncounted xs x (omega arith), h)
+
+once : (all xs : List (List ℕ)) → ((v : List ℕ) → times xs v ≤ times all v) → find (λ v. nat_le 2 (times all v)) xs ≡ None → Differ xs
+once all [] l h = tt
+once all (x ∷ xs) l h =
+    let here : (has xs x ≡ false) × (find (λ v. nat_le 2 (times all v)) xs ≡ None) = once_step x xs (times all x) (nat_le 2 (times all x)) (find (λ v. nat_le 2 (times all v)) xs) refl (l x) h in
+    (here.0, once all xs (λ v. omega (arith, times-rest x v xs, l v)) here.1)
+
+-- a list where no name counts twice has no repeats
+pub none_twice : (xs : List (List ℕ)) → find (λ v. nat_le 2 (count_by (λ w. bytes_eq w v) xs)) xs ≡ None → Differ xs
+none_twice xs h = once xs xs (λ v. omega arith) h
+
+joined_more : (vs more : List (List ℕ)) (i : ℕ) (v : List ℕ) → i < length more → v ≡ get_or more i v
+    → distinct (vs ++ take (i + 1) more) ≡ cond (has (distinct (vs ++ take i more)) v) (distinct (vs ++ take i more)) (distinct (vs ++ take i more) ++ v ∷ [])
+joined_more vs more i v l item =
+    let one : take (i + 1) more ≡ take i more ++ v ∷ [] = take_more more i v l ∙ ap (λ (w : List ℕ). take i more ++ w ∷ []) (sym item) in
+    let whole : vs ++ take (i + 1) more ≡ (vs ++ take i more) ++ v ∷ [] = ap (λ (z : List (List ℕ)). vs ++ z) one ∙ sym (append_assoc vs (take i more) (v ∷ [])) in
+    rw (has-distinct (vs ++ take i more) v) (ap (λ (z : List (List ℕ)). distinct z) whole ∙ distinct-push (vs ++ take i more) v)
+
+-- a loop's step at a name that is new
+pub joined_new : (vs more : List (List ℕ)) (i : ℕ) (v : List ℕ) (old new : List (List ℕ)) → i < length more → v ≡ get_or more i v → old ≡ distinct (vs ++ take i more)
+    → has old v ≡ false → new ≡ old ++ v ∷ [] → new ≡ distinct (vs ++ take (i + 1) more)
+joined_new vs more i v old new l item e t n =
+    let lacking : has (distinct (vs ++ take i more)) v ≡ false = ap (λ (z : List (List ℕ)). has z v) (sym e) ∙ t in
+    rw (joined_more vs more i v l item, lacking) (n ∙ ap (λ (z : List (List ℕ)). z ++ v ∷ []) e)
+
+-- a loop's step at a name that stands already
+pub joined_known : (vs more : List (List ℕ)) (i : ℕ) (v : List ℕ) (old new : List (List ℕ)) → i < length more → v ≡ get_or more i v → old ≡ distinct (vs ++ take i more)
+    → has old v ≡ true → new ≡ old → new ≡ distinct (vs ++ take (i + 1) more)
+joined_known vs more i v old new l item e t n =
+    let known : has (distinct (vs ++ take i more)) v ≡ true = ap (λ (z : List (List ℕ)). has z v) (sym e) ∙ t in
+    rw (joined_more vs more i v l item, known) (n ∙ e)

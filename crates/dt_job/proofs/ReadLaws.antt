@@ -1,0 +1,36 @@
+-- Reading line after line.
+use Rattle.std.proofs.Common.{◌≡◌, ℕ, ◌+◌, List, ◌∷◌, drop, Result, Ok, Err, refl, ap, sym, ◌∙◌}
+use Rattle.std.specs.Prelude.{slice_range}
+use Rattle.dt_text.specs.Lines.{lines_of}
+use Rattle.dt_model.specs.declared.cause.Cause.{Cause}
+use Rattle.dt_model.specs.declared.cause.LineEnd.{LineEnd}
+use Rattle.dt_model.specs.declared.cause.LineEnd.TheVariants as line_ends
+use Rattle.dt_model.specs.Steps.{Fails}
+use Rattle.dt_job.specs.declared.job.Job.{Job}
+use Rattle.dt_job.specs.Drafts.{DraftView}
+use Rattle.dt_job.specs.Lines.{bytes_line}
+use Rattle.dt_job.specs.Read.{IsRead, at_line, lines_from}
+
+goes_on : (n : ℕ) (d e : DraftView) (first : List ℕ) (rest : List (List ℕ)) → bytes_line d first ≡ Ok e → lines_from n d (first ∷ rest) ≡ lines_from (n + 1) e rest
+unfolding lines_from
+goes_on n d e first rest h = rw h refl
+
+stops : (n : ℕ) (d : DraftView) (first : List ℕ) (rest : List (List ℕ)) (c : Cause) → bytes_line d first ≡ Err c → lines_from n d (first ∷ rest) ≡ Err (n, c)
+unfolding lines_from
+stops n d first rest c h = rw h refl
+
+-- a line without a cause: what is left to read
+pub line_goes_on : (text : List ℕ) (n : ℕ) (d e : DraftView) (at from to next : ℕ) → lines_of (drop at text) ≡ slice_range text from to ∷ lines_of (drop (to + 1) text)
+    → drop next text ≡ drop (to + 1) text → bytes_line d (slice_range text from to) ≡ Ok e → lines_from (n + 1) e (lines_of (drop next text)) ≡ lines_from n d (lines_of (drop at text))
+line_goes_on text n d e at from to next l r h =
+    ap (λ (t : List ℕ). lines_from (n + 1) e (lines_of t)) r ∙ sym (goes_on n d e (slice_range text from to) (lines_of (drop (to + 1) text)) h) ∙ ap (λ (ls : List (List ℕ)). lines_from n d ls) (sym l)
+
+-- a line with a cause: the answer
+pub line_stops : (text : List ℕ) (n : ℕ) (d : DraftView) (at from to : ℕ) (c : Cause) → lines_of (drop at text) ≡ slice_range text from to ∷ lines_of (drop (to + 1) text)
+    → bytes_line d (slice_range text from to) ≡ Err c → lines_from n d (lines_of (drop at text)) ≡ Err (n, c)
+line_stops text n d at from to c l h = ap (λ (ls : List (List ℕ)). lines_from n d ls) l ∙ stops n d (slice_range text from to) (lines_of (drop (to + 1) text)) c h
+
+-- the end of a line is that of the job
+pub refuses : (n : ℕ) (end : LineEnd) (line : Result DraftView Cause) (whole : Result Job (ℕ × Cause)) → Fails end line → ((c : Cause) → line ≡ Err c → whole ≡ Err (n, c)) → IsRead (Err (at_line n end)) whole
+refuses n (line_ends.Refused c) line whole f h = h c f
+refuses n line_ends.NoMemory line whole f h = tt

@@ -1,0 +1,46 @@
+-- The job that a text is: its lines from first to last.
+use Rattle.std.specs.Prelude.{◌≡◌, ℕ, ◌+◌, List, [], ◌∷◌, if◌then◌else◌, Result, Ok, Err}
+use Rattle.dt_text.specs.Lines.{lines_of}
+use Rattle.dt_model.specs.declared.cause.Cause.{Cause}
+use Rattle.dt_model.specs.declared.cause.Cause.TheVariants as cause
+use Rattle.dt_model.specs.declared.cause.LineEnd.{LineEnd}
+use Rattle.dt_model.specs.declared.cause.LineEnd.TheVariants as line_ends
+use Rattle.dt_job.specs.declared.job.Job.{Job}
+use Rattle.dt_job.specs.declared.reading.JobEnd.{JobEnd}
+use Rattle.dt_job.specs.declared.reading.JobEnd.TheVariants as ends
+use Rattle.dt_job.specs.Drafts.{DraftView, empty_draft}
+use Rattle.dt_job.specs.Lines.{bytes_line, is_whole}
+
+-- the n-th line's answer
+abbrev pub numbered : {A : Type 0} → ℕ → Result A Cause → Result A (ℕ × Cause)
+numbered n (Ok x) = Ok x
+numbered n (Err e) = Err (n, e)
+
+-- the lines behind one that has no cause
+abbrev pub then_lines : {A B : Type 0} → Result A (ℕ × Cause) → (A → Result B (ℕ × Cause)) → Result B (ℕ × Cause)
+then_lines (Ok x) f = f x
+then_lines (Err e) f = Err e
+
+-- the job that a draft is
+abbrev pub whole_job : DraftView → Job
+whole_job d = record { tensors = d.tensors; stmts = d.stmts; shows = d.shows }
+
+-- the lines from the n-th on: the job, or the first line with a cause
+unfoldable pub lines_from : ℕ → DraftView → List (List ℕ) → Result Job (ℕ × Cause)
+lines_from n d [] = if is_whole d.due then Ok (whole_job d) else Err (n, cause.Unfinished)
+lines_from n d (bytes ∷ rest) = then_lines (numbered n (bytes_line d bytes)) (λ e. lines_from (n + 1) e rest)
+
+-- the job of a text, or its first line that has a cause, with its first cause
+abbrev pub job_of : List ℕ → Result Job (ℕ × Cause)
+job_of text = lines_from 1 empty_draft (lines_of text)
+
+-- what a call returned is what the text says, unless memory ran out
+abbrev pub IsRead : Result Job JobEnd → Result Job (ℕ × Cause) → Type 0
+IsRead (Ok j) r = r ≡ Ok j
+IsRead (Err (ends.Refused n c)) r = r ≡ Err (n, c)
+IsRead (Err ends.NoMemory) r = Unit {0}
+
+-- the end of a job at the line with this end
+abbrev pub at_line : ℕ → LineEnd → JobEnd
+at_line n (line_ends.Refused c) = ends.Refused n c
+at_line n line_ends.NoMemory = ends.NoMemory

@@ -1,0 +1,72 @@
+//! The job of a text.
+
+ghost use Rattle.std.specs.Prelude.{◌≡◌, ◌<◌, ◌-◌, ◌^◌, IfOk, [], length};
+ghost use Rattle.dt_job.specs.Jobs.{IsJob};
+ghost use Rattle.dt_job.specs.Lines.{is_whole};
+ghost use Rattle.dt_job.specs.Read.{IsRead, at_line, job_of, lines_from};
+
+use crate::draft::{Draft, Due};
+use crate::job::Job;
+use crate::lines::read_line;
+use dt_model::{Cause, LineEnd};
+use dt_text::next_line;
+use std::alloc::Global;
+
+/// Why a text is no job: its first line that has a cause, from 1, and its first cause.
+#[derive(Debug, Drop)]
+pub enum JobEnd {
+    Refused(u32, Cause),
+    NoMemory,
+}
+
+/// The job of the text, or its first line that has a cause.
+pub fn read_job(alloc: Global, text: &[u8]) -> Result<Job, JobEnd>
+    requires { length text.now < 2 ^ 32 - 1 }
+    ensures job { IsRead result (job_of text.now) }
+    ensures lawful { IfOk result IsJob }
+{
+    let mut draft = Draft::new(alloc);
+    let mut at = 0u32;
+    let mut number = 1u32;
+    loop {
+        let line = match next_line(text, at, number) {
+            None => return finish(draft, number),
+            Some(line) => line,
+        };
+        match read_line(alloc, &mut draft, text, line) {
+            Ok(()) => {}
+            Err(end) => return Err(at_line(number, end)),
+        }
+        at = line.after(text);
+        number += 1;
+    }
+}
+
+/// The job, where its lines are all there.
+#[tactic(auto, unfolding(crate::specs::Read::lines_from))]
+fn finish(draft: Draft, number: u32) -> Result<Job, JobEnd>
+    ensures job { IsRead result (lines_from number draft []) }
+    ensures lawful { IfOk result IsJob }
+{
+    if is_whole(draft.due()) {
+        Ok(draft.into_job())
+    } else {
+        Err(JobEnd::Refused(number, Cause::Unfinished))
+    }
+}
+
+fn is_whole(due: Due) -> bool
+    ensures { result ≡ is_whole due }
+{
+    matches!(due, Due::Nothing)
+}
+
+/// The end of the job at the line that has this end.
+fn at_line(number: u32, end: LineEnd) -> JobEnd
+    ensures { result ≡ at_line number end }
+{
+    match end {
+        LineEnd::Refused(cause) => JobEnd::Refused(number, cause),
+        LineEnd::NoMemory => JobEnd::NoMemory,
+    }
+}

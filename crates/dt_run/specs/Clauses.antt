@@ -1,0 +1,33 @@
+-- What the top call promises at each status.
+use Rattle.std.specs.Prelude.{◌≡◌, ℕ, List, [], ◌∷◌, codes, Option, ◌⊎◌, Bool, false}
+use Rattle.std.specs.Str.{bytes_eq}
+use Rattle.std.specs.Io.KnownBytes.{Appends}
+use Rattle.dt_io.specs.Faults.{Rose, AppendsPrefix}
+use Rattle.dt_run.specs.declared.answering.Answer.{Answer}
+use Rattle.dt_run.specs.declared.answering.Answer.TheVariants.{Text, Refusal}
+use Rattle.dt_run.specs.declared.status.Status.{Status}
+use Rattle.dt_run.specs.declared.status.Status.TheVariants as status
+use Rattle.dt_run.specs.Outcome.{Outcome}
+
+-- whether the words are `run` alone
+abbrev pub are_run_words : List (List ℕ) → Bool
+are_run_words (word ∷ []) = bytes_eq word (codes "run")
+are_run_words _ = false
+
+-- the outcome that an answer stands for
+abbrev pub outcome_in : Answer → Outcome
+outcome_in (Text text) = record { status = status.Done; text = text }
+outcome_in (Refusal text) = record { status = status.Refused; text = text }
+
+-- the outcome has this status, and the bytes written grew by exactly its text
+abbrev pub Answers : Status → Outcome → Option (List ℕ) → Option (List ℕ) → Type 0
+Answers s o old new = (o.status ≡ s) × Appends old new o.text
+
+-- an object tells the same bytes and the same count of faults as before
+abbrev pub IsUntouched : {O : Type 0} → (O → Option (List ℕ)) → (O → ℕ) → O → O → Type 0
+IsUntouched bytes faults old new = (bytes new ≡ bytes old) × (faults new ≡ faults old)
+
+-- the text was written, or the sink failed and has a front of it
+abbrev pub Wrote : {W : Type 0} → (W → Option (List ℕ)) → (W → ℕ) → W → W → Status → List ℕ → Status → Type 0
+Wrote written faults old new wanted text got = ((got ≡ wanted) × Appends (written old) (written new) text)
+    ⊎ ((got ≡ status.WriteFault) × Rose (faults old) (faults new) × AppendsPrefix (written old) (written new) text)

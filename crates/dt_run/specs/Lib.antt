@@ -1,0 +1,4 @@
+pub mod CauseText
+pub mod Clauses
+pub mod Outcome
+pub mod TensorText

@@ -1,0 +1,257 @@
+//! The text of a refused line. It takes no memory.
+
+ghost use Rattle.std.specs.Prelude.{◌≡◌, ◌≤◌, ◌+◌, ◌++◌, length};
+ghost use Rattle.std.specs.Fmt.{decimal};
+ghost use Rattle.dt_run.specs.CauseText.{argument, cause_arguments, cause_word, refused_line_text, shown as shown_cause};
+
+use crate::short_text::ShortText;
+use dt_base::Name;
+use dt_model::Cause;
+
+/// What is written where the line, by its number from 1, is refused.
+pub fn refused_line(line: u32, cause: &Cause) -> ShortText
+    ensures { result ≡ refused_line_text line cause.now }
+{
+    let mut text = ShortText::new();
+    text.append(b"refused line ");
+    text.append_number(line);
+    text.append(b": ");
+    text.append(word(cause));
+    append_arguments(&mut text, cause);
+    text.append(b"\n");
+    text
+}
+
+/// The cause that is printed by name. So far that is an unknown first word, an unknown tensor or a clash of
+/// extents; every other is printed as a fault of syntax.
+pub fn shown(cause: Cause) -> Cause
+    ensures { result ≡ shown_cause cause }
+{
+    match cause {
+        Cause::UnknownWord => Cause::UnknownWord,
+        Cause::UnknownTensor(name) => Cause::UnknownTensor(name),
+        Cause::ExtentClash(name) => Cause::ExtentClash(name),
+        Cause::LineTooLong
+        | Cause::BadByte(_)
+        | Cause::OutOfPlace
+        | Cause::Syntax
+        | Cause::BadNumber
+        | Cause::Unfinished
+        | Cause::Version
+        | Cause::BadDim
+        | Cause::NameTaken(_)
+        | Cause::TooManyTensors
+        | Cause::BadShape
+        | Cause::BadFormat
+        | Cause::TooManyStored
+        | Cause::Twice(_)
+        | Cause::WrongOrder(_)
+        | Cause::NameTwice(_)
+        | Cause::WrongDims
+        | Cause::NzMixed
+        | Cause::UnknownName(_)
+        | Cause::NameTwiceInLevel(_)
+        | Cause::ConstOut(_)
+        | Cause::NotDense(_)
+        | Cause::WrongCount
+        | Cause::OutOfShape(_)
+        | Cause::Repeated(_)
+        | Cause::BadName
+        | Cause::Missing(_)
+        | Cause::FileTooLong(_)
+        | Cause::BadRow(_)
+        | Cause::TooManyStatements
+        | Cause::LhsRepeats(_)
+        | Cause::OutputRead(_)
+        | Cause::OutputFormat(_)
+        | Cause::UnevenReduction(_)
+        | Cause::TooManyTerms
+        | Cause::TooManyLoops
+        | Cause::UnknownLoop(_)
+        | Cause::Distributed(_)
+        | Cause::Communicated(_)
+        | Cause::Fixed(_)
+        | Cause::NotOneChain
+        | Cause::NotAdjacent
+        | Cause::TooLarge
+        | Cause::NotOuter(_)
+        | Cause::NotOutermost(_)
+        | Cause::WrongExtent(_, _, _)
+        | Cause::NotBelowTask(_)
+        | Cause::BelowPre(_)
+        | Cause::NotOneTerm
+        | Cause::BadFactors
+        | Cause::BadLoops
+        | Cause::LhsDepends(_)
+        | Cause::Entangled(_)
+        | Cause::NotEveryTerm(_)
+        | Cause::RepeatedVariable(_)
+        | Cause::Derived(_)
+        | Cause::NotInnermost(_)
+        | Cause::WrongFactorCount
+        | Cause::UnknownKernel => Cause::Syntax,
+    }
+}
+
+/// The name of a cause.
+fn word(cause: &Cause) -> &'static [u8]
+    ensures word { result.now ≡ cause_word cause.now }
+    ensures short { length result.now ≤ 17 }
+{
+    match cause {
+        Cause::LineTooLong => b"LineTooLong",
+        Cause::BadByte(_) => b"BadByte",
+        Cause::UnknownWord => b"UnknownWord",
+        Cause::OutOfPlace => b"OutOfPlace",
+        Cause::Syntax => b"Syntax",
+        Cause::BadNumber => b"BadNumber",
+        Cause::Unfinished => b"Unfinished",
+        Cause::Version => b"Version",
+        Cause::BadDim => b"BadDim",
+        Cause::NameTaken(_) => b"NameTaken",
+        Cause::TooManyTensors => b"TooManyTensors",
+        Cause::BadShape => b"BadShape",
+        Cause::BadFormat => b"BadFormat",
+        Cause::TooManyStored => b"TooManyStored",
+        Cause::UnknownTensor(_) => b"UnknownTensor",
+        Cause::Twice(_) => b"Twice",
+        Cause::WrongOrder(_) => b"WrongOrder",
+        Cause::NameTwice(_) => b"NameTwice",
+        Cause::WrongDims => b"WrongDims",
+        Cause::NzMixed => b"NzMixed",
+        Cause::UnknownName(_) => b"UnknownName",
+        Cause::NameTwiceInLevel(_) => b"NameTwiceInLevel",
+        Cause::ConstOut(_) => b"ConstOut",
+        Cause::NotDense(_) => b"NotDense",
+        Cause::WrongCount => b"WrongCount",
+        Cause::OutOfShape(_) => b"OutOfShape",
+        Cause::Repeated(_) => b"Repeated",
+        Cause::BadName => b"BadName",
+        Cause::Missing(_) => b"Missing",
+        Cause::FileTooLong(_) => b"FileTooLong",
+        Cause::BadRow(_) => b"BadRow",
+        Cause::TooManyStatements => b"TooManyStatements",
+        Cause::LhsRepeats(_) => b"LhsRepeats",
+        Cause::OutputRead(_) => b"OutputRead",
+        Cause::OutputFormat(_) => b"OutputFormat",
+        Cause::ExtentClash(_) => b"ExtentClash",
+        Cause::UnevenReduction(_) => b"UnevenReduction",
+        Cause::TooManyTerms => b"TooManyTerms",
+        Cause::TooManyLoops => b"TooManyLoops",
+        Cause::UnknownLoop(_) => b"UnknownLoop",
+        Cause::Distributed(_) => b"Distributed",
+        Cause::Communicated(_) => b"Communicated",
+        Cause::Fixed(_) => b"Fixed",
+        Cause::NotOneChain => b"NotOneChain",
+        Cause::NotAdjacent => b"NotAdjacent",
+        Cause::TooLarge => b"TooLarge",
+        Cause::NotOuter(_) => b"NotOuter",
+        Cause::NotOutermost(_) => b"NotOutermost",
+        Cause::WrongExtent(_, _, _) => b"WrongExtent",
+        Cause::NotBelowTask(_) => b"NotBelowTask",
+        Cause::BelowPre(_) => b"BelowPre",
+        Cause::NotOneTerm => b"NotOneTerm",
+        Cause::BadFactors => b"BadFactors",
+        Cause::BadLoops => b"BadLoops",
+        Cause::LhsDepends(_) => b"LhsDepends",
+        Cause::Entangled(_) => b"Entangled",
+        Cause::NotEveryTerm(_) => b"NotEveryTerm",
+        Cause::RepeatedVariable(_) => b"RepeatedVariable",
+        Cause::Derived(_) => b"Derived",
+        Cause::NotInnermost(_) => b"NotInnermost",
+        Cause::WrongFactorCount => b"WrongFactorCount",
+        Cause::UnknownKernel => b"UnknownKernel",
+    }
+}
+
+/// Appends the arguments of a cause, each after a blank.
+fn append_arguments(text: &mut ShortText, cause: &Cause)
+    requires { length text.old ≤ 64 }
+    ensures text { text.new ≡ text.old ++ cause_arguments cause.now }
+    ensures short { length text.new ≤ length text.old + 87 }
+{
+    match cause {
+        Cause::WrongExtent(name, extent, dimension) => {
+            append_name(text, name);
+            append_count(text, *extent);
+            append_count(text, *dimension);
+        }
+        Cause::BadByte(n) | Cause::OutOfShape(n) | Cause::Repeated(n) | Cause::BadRow(n) =>
+            append_count(text, *n),
+        Cause::NameTaken(name)
+        | Cause::UnknownTensor(name)
+        | Cause::Twice(name)
+        | Cause::WrongOrder(name)
+        | Cause::NameTwice(name)
+        | Cause::UnknownName(name)
+        | Cause::NameTwiceInLevel(name)
+        | Cause::ConstOut(name)
+        | Cause::NotDense(name)
+        | Cause::Missing(name)
+        | Cause::FileTooLong(name)
+        | Cause::LhsRepeats(name)
+        | Cause::OutputRead(name)
+        | Cause::OutputFormat(name)
+        | Cause::ExtentClash(name)
+        | Cause::UnevenReduction(name)
+        | Cause::UnknownLoop(name)
+        | Cause::Distributed(name)
+        | Cause::Communicated(name)
+        | Cause::Fixed(name)
+        | Cause::NotOuter(name)
+        | Cause::NotOutermost(name)
+        | Cause::NotBelowTask(name)
+        | Cause::BelowPre(name)
+        | Cause::LhsDepends(name)
+        | Cause::Entangled(name)
+        | Cause::NotEveryTerm(name)
+        | Cause::RepeatedVariable(name)
+        | Cause::Derived(name)
+        | Cause::NotInnermost(name) => append_name(text, name),
+        Cause::LineTooLong
+        | Cause::UnknownWord
+        | Cause::OutOfPlace
+        | Cause::Syntax
+        | Cause::BadNumber
+        | Cause::Unfinished
+        | Cause::Version
+        | Cause::BadDim
+        | Cause::TooManyTensors
+        | Cause::BadShape
+        | Cause::BadFormat
+        | Cause::TooManyStored
+        | Cause::WrongDims
+        | Cause::NzMixed
+        | Cause::WrongCount
+        | Cause::BadName
+        | Cause::TooManyStatements
+        | Cause::TooManyTerms
+        | Cause::TooManyLoops
+        | Cause::NotOneChain
+        | Cause::NotAdjacent
+        | Cause::TooLarge
+        | Cause::NotOneTerm
+        | Cause::BadFactors
+        | Cause::BadLoops
+        | Cause::WrongFactorCount
+        | Cause::UnknownKernel => {}
+    }
+}
+
+fn append_name(text: &mut ShortText, name: &Name)
+    requires { length text.old ≤ 127 }
+    ensures text { text.new ≡ text.old ++ argument name.now }
+    ensures short { length text.new ≤ length text.old + 65 }
+{
+    text.append(b" ");
+    text.append(name.as_slice());
+}
+
+fn append_count(text: &mut ShortText, n: u32)
+    requires { length text.old ≤ 181 }
+    ensures text { text.new ≡ text.old ++ argument (decimal n) }
+    ensures short { length text.new ≤ length text.old + 11 }
+{
+    text.append(b" ");
+    text.append_number(n);
+}

@@ -1,0 +1,166 @@
+//! The top call over sources and sinks in memory.
+
+ghost use Rattle.std.specs.Prelude.{◌≤◌};
+
+use super::*;
+use dt_base::{Bytes, Numbers};
+use dt_io::{MemSink, MemSource};
+use std::alloc::Global;
+use std::test::Fail;
+
+/// The job of the product of two matrices.
+const PRODUCT: [&[u8]; 10] = [
+    b"distal 1",
+    b"machine 1",
+    b"tensor A 2x2",
+    b"tensor B 2x2",
+    b"tensor C 2x2",
+    b"data B 1 2 3 4",
+    b"data C 5 6 7 8",
+    b"stmt A(i,j) = B(i,k) * C(k,j)",
+    b"end",
+    b"print A",
+];
+
+const PRINTED: &[u8] = b"distal run\ntensor A 2x2\n19 22\n43 50\n";
+
+/// The product's job with another text as its line `at`, from 1; none is changed where `at` is 0.
+fn job(alloc: Global, at: usize, line: &[u8]) -> Result<Bytes, Fail> {
+    let mut text = Bytes::new(alloc);
+    for (i, old) in PRODUCT.iter().enumerate() {
+        text.append(if i + 1 == at { line } else { *old })
+            .ok()
+            .ok_or("memory")?;
+        text.append(b"\n").ok().ok_or("memory")?;
+    }
+    Ok(text)
+}
+
+/// Where a run is to fail: the calls of the source, of the sink, and the sink's room.
+#[derive(Clone, Copy, Debug)]
+struct Faults {
+    reads: u32,
+    writes: u32,
+    room: u32,
+}
+
+const NO_FAULT: Faults = Faults {
+    reads: 0,
+    writes: 0,
+    room: 1000,
+};
+
+/// A run over a source of 16 bytes a call and a sink of one.
+fn run(alloc: Global, word: &str, text: Bytes, faults: &Faults) -> Result<(Status, MemSink), Fail> {
+    let mut words = Vec::new(alloc);
+    words.push(String::from_str(alloc, word)?)?;
+    let reads = Numbers::from_slice(alloc, &[faults.reads])
+        .ok()
+        .ok_or("memory")?;
+    let writes = Numbers::from_slice(alloc, &[faults.writes])
+        .ok()
+        .ok_or("memory")?;
+    let mut input = MemSource::new(text, 16, reads);
+    let mut out = MemSink::new(alloc, 1, writes, faults.room)
+        .ok()
+        .ok_or("memory")?;
+    let status = distal(alloc, words.as_slice(), &mut input, &mut out);
+    Ok((status, out))
+}
+
+#[test]
+fn prints_the_product(rt: HostRuntime) -> Result<(), Fail> {
+    let (status, out) = run(rt.alloc(), "run", job(rt.alloc(), 0, b"")?, &NO_FAULT)?;
+    assert_eq!(rt; status, Status::Done);
+    assert_eq!(rt; out.written(), PRINTED);
+    Ok(())
+}
+
+#[test]
+fn refuses_the_first_line_with_a_cause(rt: HostRuntime) -> Result<(), Fail> {
+    let changes: [(usize, &[u8], &[u8]); 10] = [
+        (
+            8,
+            b"stmt A(i,j) = B(i,k) * D(k,j)",
+            b"refused line 8: UnknownTensor D\n",
+        ),
+        (3, b"tensor A 3x2", b"refused line 8: ExtentClash i\n"),
+        (
+            8,
+            b"stmt A(i,j) = B(i,j) + C(i,j)",
+            b"refused line 8: Syntax\n",
+        ),
+        (9, b"split i io ii 2", b"refused line 9: UnknownWord\n"),
+        (1, b"distal 2", b"refused line 1: Syntax\n"),
+        (2, b"machine 2", b"refused line 2: Syntax\n"),
+        (6, b"data B 1 2 3", b"refused line 6: Syntax\n"),
+        (7, b"data D 5 6 7 8", b"refused line 7: UnknownTensor D\n"),
+        (9, b"# no end", b"refused line 10: Syntax\n"),
+        (10, b"", b"refused line 11: Syntax\n"),
+    ];
+    for (at, line, text) in changes {
+        let (status, out) = run(rt.alloc(), "run", job(rt.alloc(), at, line)?, &NO_FAULT)?;
+        assert_eq!(rt; status, Status::Refused);
+        assert_eq!(rt; out.written(), text);
+    }
+    Ok(())
+}
+
+#[test]
+fn reads_nothing_for_other_words(rt: HostRuntime) -> Result<(), Fail> {
+    for word in ["plan", "Run", "run ", "", "--help"] {
+        let (status, out) = run(rt.alloc(), word, job(rt.alloc(), 0, b"")?, &NO_FAULT)?;
+        assert_eq!(rt; status, Status::BadWords);
+        assert_eq!(rt; out.written().len(), 0);
+    }
+    Ok(())
+}
+
+// The job has 130 bytes: nine reads, of 16 bytes and of two at last, and a tenth that finds the end.
+#[test]
+fn each_read_that_fails_writes_nothing(rt: HostRuntime) -> Result<(), Fail> {
+    for k in 1..11u32 {
+        let faults = Faults {
+            reads: k,
+            ..NO_FAULT
+        };
+        let (status, out) = run(rt.alloc(), "run", job(rt.alloc(), 0, b"")?, &faults)?;
+        assert_eq!(rt; status, Status::ReadFault);
+        assert_eq!(rt; out.written().len(), 0);
+    }
+    Ok(())
+}
+
+// The text has 36 bytes: a write for each.
+#[test]
+fn each_write_that_fails_leaves_a_prefix(rt: HostRuntime) -> Result<(), Fail> {
+    for k in 1..37u32 {
+        let faults = Faults {
+            writes: k,
+            ..NO_FAULT
+        };
+        let (status, out) = run(rt.alloc(), "run", job(rt.alloc(), 0, b"")?, &faults)?;
+        assert_eq!(rt; status, Status::WriteFault);
+        assert!(rt; is_prefix(out.written(), k - 1));
+    }
+    Ok(())
+}
+
+#[test]
+fn a_sink_without_room_has_a_prefix(rt: HostRuntime) -> Result<(), Fail> {
+    for room in 0..36u32 {
+        let faults = Faults { room, ..NO_FAULT };
+        let (status, out) = run(rt.alloc(), "run", job(rt.alloc(), 0, b"")?, &faults)?;
+        assert_eq!(rt; status, Status::WriteFault);
+        assert!(rt; is_prefix(out.written(), room));
+    }
+    Ok(())
+}
+
+/// Whether these are the first `len` bytes of what the product prints.
+fn is_prefix(written: &[u8], len: u32) -> bool {
+    match PRINTED.get(..len as usize) {
+        None => false,
+        Some(front) => written == front,
+    }
+}
