@@ -1,6 +1,9 @@
 //! The program `distal`: it reads a job from the standard input and prints its answer.
 #![tactic(auto)]
 
+ghost use Rattle.std.specs.Prelude.{◌≡◌};
+ghost use Rattle.distal.specs.Exit.{exit_code};
+
 use dt_io::{StdSink, StdSource};
 use dt_run::{Status, distal};
 use std::env;
@@ -43,7 +46,9 @@ fn words_end(error: &Error) -> Status {
 }
 
 /// The exit status.
-fn code(status: Status) -> u8 {
+fn code(status: Status) -> u8
+    ensures { result ≡ exit_code status }
+{
     match status {
         Status::Done => 0,
         Status::BadWords => 1,
