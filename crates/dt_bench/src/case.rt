@@ -26,7 +26,7 @@ pub enum Case {
 }
 
 impl Case {
-    pub fn from_word(word: &str) -> Option<Case> {
+    pub(crate) fn from_word(word: &str) -> Option<Case> {
         match word {
             "build" => Some(Case::Build),
             "meet" => Some(Case::Meet),
@@ -43,7 +43,7 @@ impl Case {
 
 /// The answer of a case on sets of so many intervals. The first has 0 and 1 of each 5 numbers, the second 1 and 2,
 /// and the third 3 alone.
-pub fn answer(alloc: Global, case: Case, size: u32) -> Result<u32, NoMemory>
+pub(crate) fn answer(alloc: Global, case: Case, size: u32) -> Result<u32, NoMemory>
     requires { size ≤ LARGEST }
 {
     let first = Runs::of_box(alloc, &[size, 5], &[0, 0], &[size, 2])?;

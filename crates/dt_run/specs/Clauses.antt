@@ -23,10 +23,6 @@ outcome_in (Refusal text) = record { status = status.Refused; text = text }
 abbrev pub Answers : Status → Outcome → Option (List ℕ) → Option (List ℕ) → Type 0
 Answers s o old new = (o.status ≡ s) × Appends old new o.text
 
--- an object tells the same bytes and the same count of faults as before
-abbrev pub IsUntouched : {O : Type 0} → (O → Option (List ℕ)) → (O → ℕ) → O → O → Type 0
-IsUntouched bytes faults old new = (bytes new ≡ bytes old) × (faults new ≡ faults old)
-
 -- the text was written, or the sink failed and has a front of it
 abbrev pub Wrote : {W : Type 0} → (W → Option (List ℕ)) → (W → ℕ) → W → W → Status → List ℕ → Status → Type 0
 Wrote written faults old new wanted text got = ((got ≡ wanted) × Appends (written old) (written new) text)

@@ -4,7 +4,7 @@ ghost use Rattle.std.specs.Prelude.{◌≡◌, ◌≢◌, ◌≤◌, IfSome, map
 ghost use Rattle.std.specs.Io.KnownBytes.{Keeps, Appends};
 ghost use Rattle.dt_io.specs.Faults.{Rose, AppendsPrefix};
 ghost use Rattle.dt_run.specs.Outcome.{outcome_of};
-ghost use Rattle.dt_run.specs.Clauses.{Answers, IsUntouched, Wrote, are_run_words};
+ghost use Rattle.dt_run.specs.Clauses.{Answers, Wrote, are_run_words};
 
 use crate::answering::{Answer, answer_to};
 use crate::status::Status;
@@ -27,7 +27,7 @@ pub fn distal<R: Source, W: Sink>(
     ensures refused { result ≡ Status.Refused → IfSome (R.left input.old) (λ bytes. Answers Status.Refused (outcome_of bytes) (W.written out.old) (W.written out.new)) }
 
     // When each other status comes, and what stands then. On NoMemory and ReadFault nothing is written.
-    ensures faults { (result ≡ Status.BadWords → (are_run_words (map string_bytes words.now) ≡ false) × IsUntouched R.left R.faults input.old input.new × IsUntouched W.written W.faults out.old out.new)
+    ensures faults { (result ≡ Status.BadWords → (are_run_words (map string_bytes words.now) ≡ false) × (input.new ≡ input.old) × (out.new ≡ out.old))
         × (result ≡ Status.ReadFault → Rose (R.faults input.old) (R.faults input.new) × Keeps (W.written out.old) (W.written out.new))
         × (result ≡ Status.WriteFault → Rose (W.faults out.old) (W.faults out.new) × IfSome (R.left input.old) (λ bytes. AppendsPrefix (W.written out.old) (W.written out.new) (outcome_of bytes).text))
         × (result ≡ Status.NoMemory → (are_run_words (map string_bytes words.now) ≡ true) × Keeps (W.written out.old) (W.written out.new)) }
