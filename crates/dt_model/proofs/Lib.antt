@@ -1,6 +1,9 @@
 pub mod Accesses
+pub mod Firsts
 pub mod Fronts
 pub mod LawfulFacts
+pub mod Lexicographic
+pub mod PositionFacts
 pub mod RingLaws
 pub mod ShapeFacts
 pub mod StmtFacts

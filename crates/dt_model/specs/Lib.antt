@@ -1,3 +1,5 @@
+pub mod PositionLaws
+pub mod Positions
 pub mod Ring
 pub mod RingValue
 pub mod Shape

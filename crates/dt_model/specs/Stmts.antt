@@ -1,5 +1,6 @@
 -- Which statements stand over which tensors.
-use Rattle.std.specs.Prelude.{◌≡◌, ℕ, ◌<◌, ◌≤◌, List, [], length, map, Some, All, IsSome, slice_get, slice_index, unwrap_or}
+use Rattle.std.specs.Prelude.{◌≡◌, ℕ, ◌<◌, ◌≤◌, List, [], ◌++◌, length, map, Some, All, IsSome, slice_get, slice_index, unwrap_or, ◌||◌, nat_eq, nat_lt}
+use Rattle.std.specs.List.{AllPass, flat_map, list_any}
 use Rattle.dt_base.specs.Ranges.{below}
 use Rattle.dt_base.specs.Rows.{row_major}
 use Rattle.dt_model.specs.WholeTensor.{WholeTensor}
@@ -42,6 +43,27 @@ pub record IsStmt (shapes : List (List ℕ)) (s : Stmt) : Type 0 where
   pub left : s.lhs.vars ≡ below (length s.lhs.vars)
   pub target : IsAccess shapes s.extents s.lhs
   pub terms : All (IsTerm shapes s.extents) s.terms
+
+-- the variables of a factor, where they stand
+abbrev pub factor_vars : Factor → List ℕ
+factor_vars (Read a) = a.vars
+factor_vars (Literal n) = []
+
+-- the variables of a term, where they stand
+abbrev pub term_vars : Term → List ℕ
+term_vars t = flat_map factor_vars t.factors
+
+-- the variables of a statement, where they stand
+abbrev pub stmt_vars : Stmt → List ℕ
+stmt_vars s = s.lhs.vars ++ flat_map term_vars s.terms
+
+-- each variable stands in some access
+abbrev pub AreUsed : Stmt → Type 0
+AreUsed s = AllPass (λ v. list_any (nat_eq v) (stmt_vars s)) (below (length s.extents))
+
+-- each term has each reduction variable
+abbrev pub AreEven : Stmt → Type 0
+AreEven s = All (λ t. AllPass (λ v. nat_lt v (length s.lhs.vars) || list_any (nat_eq v) (term_vars t)) (below (length s.extents))) s.terms
 
 -- c is an index of the statement's left tensor
 abbrev pub IsIndex : List (List ℕ) → Stmt → List ℕ → Type 0

@@ -5,6 +5,7 @@
 mod cause;
 mod lawful;
 mod laws;
+mod locator;
 mod shape;
 mod stmt;
 #[cfg(test)]
@@ -14,7 +15,8 @@ mod whole;
 
 pub use cause::{Cause, LineEnd};
 pub use lawful::{is_index, is_stmt};
-pub use laws::value_is_a_ring_sum;
+pub use laws::{positions_follow_coordinates, value_is_a_ring_sum};
+pub use locator::Locator;
 pub use shape::Shape;
 pub use stmt::{Access, Factor, Factors, Stmt, Stmts, Term, Terms};
 pub use value::value_at;

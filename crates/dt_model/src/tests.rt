@@ -1,7 +1,7 @@
 //! Values worked out by hand, limits of shapes, and each list type once.
 
 use crate::lawful::{is_index, is_stmt};
-use crate::laws::value_is_a_ring_sum;
+use crate::laws::{positions_follow_coordinates, value_is_a_ring_sum};
 use crate::shape::Shape;
 use crate::stmt::{Access, Factor, Factors, Stmt, Stmts, Term, Terms};
 use crate::value::value_at;
@@ -343,6 +343,7 @@ fn statements_are_a_list(rt: HostRuntime) -> Result<(), Fail> {
 }
 
 #[test]
-fn the_value_is_a_ring_sum() {
+fn laws_are_facts_alone() {
     value_is_a_ring_sum();
+    positions_follow_coordinates();
 }

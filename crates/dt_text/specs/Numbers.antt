@@ -6,6 +6,10 @@ use Rattle.std.specs.List.{list_all}
 abbrev pub is_digit : ℕ → Bool
 is_digit b = nat_le 48 b && nat_le b 57
 
+-- a word in a number's place: one or more digits
+abbrev pub is_numeral : List ℕ → Bool
+is_numeral word = nat_le 1 (length word) && list_all is_digit word
+
 -- the value of digits: the sum of each one times ten to the number of digits behind it
 abbrev pub digits_value : List ℕ → ℕ
 digits_value [] = 0

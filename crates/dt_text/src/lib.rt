@@ -14,7 +14,7 @@ mod token_spans;
 pub use line::{Line, next_line};
 pub use line_bytes::behind_blanks;
 pub use names::{is_name, is_name_byte};
-pub use numbers::number;
+pub use numbers::{is_numeral, number};
 pub use text_end::TextEnd;
 pub use token_list::{Token, Tokens};
 pub use token_spans::{after_word, tokens, word, words};

@@ -2,7 +2,7 @@
 
 ghost use Rattle.std.specs.Prelude.{◌≡◌, ◌≤◌, length};
 ghost use Rattle.std.specs.List.{AllPass, list_all};
-ghost use Rattle.dt_text.specs.Numbers.{number_of, digits_value, is_digit};
+ghost use Rattle.dt_text.specs.Numbers.{number_of, digits_value, is_digit, is_numeral};
 
 /// The value of 1 to 20 digits, where it is below 2^64. Zeros may lead.
 pub fn number(text: &[u8]) -> Option<u64>
@@ -24,6 +24,13 @@ fn value(digits: &[u8]) -> u128
         value = value * 10 + u128::from(digit - b'0');
     }
     value
+}
+
+/// Whether a word is one or more digits, of any value.
+pub fn is_numeral(word: &[u8]) -> bool
+    ensures { result ≡ is_numeral word.now }
+{
+    !word.is_empty() && are_digits(word)
 }
 
 fn are_digits(text: &[u8]) -> bool
