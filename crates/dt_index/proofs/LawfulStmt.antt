@@ -1,7 +1,7 @@
 -- A statement that passes all tests is one over the tensors that are known.
-use Rattle.std.proofs.Common.{◌≡◌, ℕ, ◌<◌, ◌≤◌, List, [], ◌++◌, length, get_or, map, refl, ap, sym, ◌∙◌, arith, Bool, true, false, not, All, Option, Some, None, slice_index, slice_get, unwrap_or, option_map, is_none, nat_le}
+use Rattle.std.proofs.Common.{◌≡◌, ℕ, ◌<◌, ◌≤◌, List, [], ◌∷◌, ◌++◌, length, get_or, map, refl, ap, sym, ◌∙◌, arith, Bool, true, false, not, All, Option, Some, None, slice_index, slice_get, unwrap_or, option_map, is_none, nat_le}
 use Rattle.std.specs.Prelude.{find, count_by, ◌==◌}
-use Rattle.std.specs.List.{flat_map}
+use Rattle.std.specs.List.{filter_map, flat_map}
 use Rattle.std.specs.Str.{bytes_eq}
 use Rattle.std.proofs.lemmas.Bool.{eqb-true}
 use Rattle.std.proofs.lemmas.List.{length-map}
@@ -10,14 +10,16 @@ use Rattle.std.proofs.lemmas.List.Quantifiers.{position-Some}
 use Rattle.std.proofs.lemmas.Option.{slice_get-map, slice_get-get_or}
 use Rattle.dt_base.specs.Ranges.{below}
 use Rattle.dt_model.specs.Stmts.{IsStmt, IsAccess, IsFactor, IsTerm}
-use Rattle.dt_model.specs.declared.stmt.Factor.TheVariants.{Read}
+use Rattle.dt_model.specs.declared.stmt.Factor.TheVariants as factor
 use Rattle.dt_index.specs.Known.{Known, place_of, known_extents, shapes_of_known}
-use Rattle.dt_index.specs.Resolve.{accesses_of, named_extents, access_occurrences, occurrences, distinct, variables_of, extent_of, unknown_tensor, wrong_order, lhs_repeats, extent_clash, number_in, numbered, stmt_of}
+use Rattle.dt_index.specs.Resolve.{access_in, accesses_of, right_accesses, term_accesses, named_extents, access_occurrences, occurrences, distinct, variables_of, extent_of, unknown_tensor, wrong_order, lhs_repeats, extent_clash, number_in, numbered, numbered_factor, numbered_term, stmt_of}
 use Rattle.dt_index.specs.declared.form.Form.{Form}
 use Rattle.dt_index.specs.declared.form.NamedAccess.{NamedAccess}
+use Rattle.dt_index.specs.declared.form.NamedFactor.{NamedFactor}
+use Rattle.dt_index.specs.declared.form.NamedFactor.TheVariants as named
 use Rattle.dt_index.specs.declared.occurrence_list.Occurrence.{Occurrence}
 use Rattle.dt_index.proofs.NameFacts.{Differ, has, has-distinct, has-at, place-inside, number_in-place, numbers_back, numbers-front, distinct-front, none_twice}
-use Rattle.dt_index.proofs.OccurrenceFacts.{find_none, option_map-none, first_extents, All-flat_map, extents_match}
+use Rattle.dt_index.proofs.OccurrenceFacts.{find_none, option_map-none, first_extents, occurrence_members, All-flat_map, extents_match}
 
 -- what the tests say of an access
 pub record Passes (tensors : List Known) (names : List (List ℕ)) (os : List Occurrence) (a : NamedAccess) : Type 0 where
@@ -65,38 +67,59 @@ not_not false h = cc
 abbrev names_in : List NamedAccess → List (List ℕ)
 names_in accesses = flat_map (λ a. a.vars) accesses
 
+-- the variables of a statement have all names of its accesses
+members : (accesses : List NamedAccess) → All (λ a. All (λ v. has (distinct (names_in accesses)) v ≡ true) a.vars) accesses
+members accesses k d l = λ j e m.
+    let names : List (List ℕ) = names_in accesses in
+    let inside : All (λ v. has names v ≡ true) (get_or accesses k d).vars = All-flat_map (λ v. has names v ≡ true) (λ a. a.vars) accesses (λ i f n. has-at names i f n) k d l in
+    has-distinct names (get_or (get_or accesses k d).vars j e) ∙ inside j e m
+
 -- each access of a statement whose tests find nothing passes
-pub all_pass : (tensors : List Known) (f : Form) → unknown_tensor tensors f ≡ None → wrong_order tensors f ≡ None → extent_clash (occurrences tensors f) ≡ None
+pub all_pass : (tensors : List Known) (f : Form) → unknown_tensor tensors f ≡ None → wrong_order tensors f ≡ None → extent_clash (occurrences tensors f) (variables_of f) ≡ None
     → All (λ a. length (named_extents tensors a.tensor) ≤ 4) (accesses_of f) → All (λ a. Passes tensors (variables_of f) (occurrences tensors f) a) (accesses_of f)
 all_pass tensors f u w e few k d l =
     let a : NamedAccess = get_or (accesses_of f) k d in
-    let names : List (List ℕ) = names_in (accesses_of f) in
     let os : List Occurrence = occurrences tensors f in
     let unknown : find (λ a. is_none (place_of a.tensor tensors)) (accesses_of f) ≡ None = option_map-none _ (find (λ a. is_none (place_of a.tensor tensors)) (accesses_of f)) u in
     let wrong : find (λ a. not (length a.vars == length (named_extents tensors a.tensor))) (accesses_of f) ≡ None = option_map-none _ (find (λ a. not (length a.vars == length (named_extents tensors a.tensor))) (accesses_of f)) w in
     let order : length a.vars ≡ length (named_extents tensors a.tensor) =
     eqb-true (length a.vars) (length (named_extents tensors a.tensor)) (not_not (length a.vars == length (named_extents tensors a.tensor)) (find_none (λ a. not (length a.vars == length (named_extents tensors a.tensor))) (accesses_of f) k d wrong l)) in
-    let inside : All (λ v. has names v ≡ true) a.vars = All-flat_map (λ v. has names v ≡ true) (λ a. a.vars) (accesses_of f) (λ j e m. has-at names j e m) k d l in
     let firsts : All (λ o. extent_of os o.name ≡ o.extent) (access_occurrences tensors a) =
-    All-flat_map (λ o. extent_of os o.name ≡ o.extent) (access_occurrences tensors) (accesses_of f) (first_extents os e) k d l in
+    All-flat_map (λ o. extent_of os o.name ≡ o.extent) (access_occurrences tensors) (accesses_of f) (first_extents os (variables_of f) (occurrence_members tensors (variables_of f) (accesses_of f) (members (accesses_of f))) e) k d l in
     record {
       known = find_none (λ a. is_none (place_of a.tensor tensors)) (accesses_of f) k d unknown l;
       order = order;
       few = few k d l;
-      members = λ j e m. has-distinct names (get_or a.vars j e) ∙ inside j e m;
+      members = members (accesses_of f) k d l;
       extents = extents_match os a.vars (named_extents tensors a.tensor) order firsts;
     }
 
--- the left variables are numbered 0, 1, .. where none stands twice
-pub left_numbers : (tensors : List Known) (f : Form) → lhs_repeats f ≡ None → map (number_in (variables_of f)) f.lhs.vars ≡ below (length (map (number_in (variables_of f)) f.lhs.vars))
-left_numbers tensors f h =
+-- the left variables differ where none stands twice
+pub left_differ : (f : Form) → lhs_repeats f ≡ None → Differ f.lhs.vars
+left_differ f h = none_twice f.lhs.vars (option_map-none _ (find (λ v. nat_le 2 (count_by (λ w. bytes_eq w v) f.lhs.vars)) f.lhs.vars) h)
+
+-- the left variables are the first ones of the statement
+pub left_first : (f : Form) → lhs_repeats f ≡ None → (zs : List (List ℕ)) × (variables_of f ≡ f.lhs.vars ++ zs)
+left_first f h = distinct-front f.lhs.vars (names_in (right_accesses f)) (left_differ f h)
+
+-- so they are numbered 0, 1, ..
+pub left_numbers : (f : Form) → lhs_repeats f ≡ None → map (number_in (variables_of f)) f.lhs.vars ≡ below (length (map (number_in (variables_of f)) f.lhs.vars))
+left_numbers f h =
     let vars : List (List ℕ) = f.lhs.vars in
-    let differ : Differ vars = none_twice vars (option_map-none _ (find (λ v. nat_le 2 (count_by (λ w. bytes_eq w v) vars)) vars) h) in
-    let front : (zs : List (List ℕ)) × (distinct (vars ++ names_in f.factors) ≡ vars ++ zs) = distinct-front vars (names_in f.factors) differ in
-    rw (length-map vars (number_in (variables_of f))) (ap (λ (z : List (List ℕ)). map (number_in z) vars) front.1 ∙ numbers-front vars front.0 differ)
+    let front : (zs : List (List ℕ)) × (variables_of f ≡ vars ++ zs) = left_first f h in
+    rw (length-map vars (number_in (variables_of f))) (ap (λ (z : List (List ℕ)). map (number_in z) vars) front.1 ∙ numbers-front vars front.0 (left_differ f h))
+
+factors_lawful : (tensors : List Known) (names : List (List ℕ)) (extents : List ℕ) (factors : List NamedFactor) → All (λ a. IsAccess (shapes_of_known tensors) extents (numbered tensors names a)) (filter_map access_in factors)
+    → All (IsFactor (shapes_of_known tensors) extents) (map (numbered_factor tensors names) factors)
+factors_lawful tensors names extents [] h = All-nil (IsFactor (shapes_of_known tensors) extents)
+factors_lawful tensors names extents (named.Read a ∷ factors) h =
+    All-cons (IsFactor (shapes_of_known tensors) extents) (factor.Read (numbered tensors names a)) (map (numbered_factor tensors names) factors) (All-head (λ a. IsAccess (shapes_of_known tensors) extents (numbered tensors names a)) a (filter_map access_in factors) h)
+    (factors_lawful tensors names extents factors (All-tail (λ a. IsAccess (shapes_of_known tensors) extents (numbered tensors names a)) a (filter_map access_in factors) h))
+factors_lawful tensors names extents (named.Literal n ∷ factors) h =
+    All-cons (IsFactor (shapes_of_known tensors) extents) (factor.Literal (unwrap_or n 0)) (map (numbered_factor tensors names) factors) tt (factors_lawful tensors names extents factors h)
 
 -- a statement whose tests find nothing is lawful
-pub lawful_stmt : (tensors : List Known) (f : Form) → unknown_tensor tensors f ≡ None → wrong_order tensors f ≡ None → lhs_repeats f ≡ None → extent_clash (occurrences tensors f) ≡ None
+pub lawful_stmt : (tensors : List Known) (f : Form) → unknown_tensor tensors f ≡ None → wrong_order tensors f ≡ None → lhs_repeats f ≡ None → extent_clash (occurrences tensors f) (variables_of f) ≡ None
     → length (variables_of f) ≤ 8 → All (λ a. length (named_extents tensors a.tensor) ≤ 4) (accesses_of f) → IsStmt (shapes_of_known tensors) (stmt_of tensors f)
 lawful_stmt tensors f u w r e n few =
     let names : List (List ℕ) = variables_of f in
@@ -105,13 +128,13 @@ lawful_stmt tensors f u w r e n few =
     let extents : List ℕ = map (extent_of os) names in
     let each : All (λ a. Passes tensors names os a) (accesses_of f) = all_pass tensors f u w e few in
     let lawful : All (λ a. IsAccess shapes extents (numbered tensors names a)) (accesses_of f) = λ k d l. lawful_access tensors names os (get_or (accesses_of f) k d) (each k d l) in
+    let right : All (λ t. All (λ a. IsAccess shapes extents (numbered tensors names a)) (term_accesses t)) f.terms =
+    All-flat_map (λ a. IsAccess shapes extents (numbered tensors names a)) term_accesses f.terms (All-tail (λ a. IsAccess shapes extents (numbered tensors names a)) f.lhs (right_accesses f) lawful) in
     record {
       few = omega (arith, length-map names (extent_of os));
-      left = left_numbers tensors f r;
-      target = All-head (λ a. IsAccess shapes extents (numbered tensors names a)) f.lhs f.factors lawful;
-      terms = All-cons (IsTerm shapes extents) (record { minus = false; factors = map (λ a. Read (numbered tensors names a)) f.factors }) []
-          (All-map (IsFactor shapes extents) (λ a. Read (numbered tensors names a)) f.factors (All-tail (λ a. IsAccess shapes extents (numbered tensors names a)) f.lhs f.factors lawful))
-          (All-nil (IsTerm shapes extents));
+      left = left_numbers f r;
+      target = All-head (λ a. IsAccess shapes extents (numbered tensors names a)) f.lhs (right_accesses f) lawful;
+      terms = All-map (IsTerm shapes extents) (numbered_term tensors names) f.terms (λ k d l. factors_lawful tensors names extents (get_or f.terms k d).factors (right k d l));
     }
 
 -- an answer that no case takes is none

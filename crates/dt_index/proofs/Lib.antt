@@ -1,5 +1,15 @@
+pub mod FormSteps
 pub mod LawfulStmt
 pub mod NameFacts
 pub mod OccurrenceFacts
+pub mod PartFacts
 pub mod Pieces
+pub mod PrintForms
+pub mod PrintLexing
+pub mod PrintNames
+pub mod PrintOrigins
+pub mod PrintParsing
+pub mod PrintPieces
+pub mod RefFacts
 pub mod SymbolSteps
+pub mod UsedFacts

@@ -1,10 +1,11 @@
 -- Lists of names: which names they have, without repeats, and at which places.
-use Rattle.std.proofs.Common.{◌≡◌, ℕ, zero, suc, ◌+◌, ◌<◌, ◌≤◌, take, List, [], ◌∷◌, ◌++◌, length, get_or, map, refl, ap, sym, ◌∙◌, arith, Bool, true, false, cond, not, ◌||◌, All, Option, Some, None, nat_le, inl, inr, length-append, slice_index}
+use Rattle.std.proofs.Common.{◌≡◌, ℕ, zero, suc, ◌+◌, ◌<◌, ◌≤◌, take, List, [], ◌∷◌, ◌++◌, length, get_or, map, refl, ap, sym, ◌∙◌, arith, Bool, true, false, cond, not, ◌||◌, All, Option, Some, None, nat_eq, nat_le, inl, inr, length-append, slice_index}
 use Rattle.std.specs.Prelude.{filter, find, count_by}
 use Rattle.std.specs.List.{list_any, position_or_len}
 use Rattle.std.specs.Str.{bytes_eq}
 use Rattle.std.proofs.lemmas.Bool.{or_parts, lt-ltb, leb-false, cases_lt}
-use Rattle.std.proofs.lemmas.Bool.Decides.{same_from_decides}
+use Rattle.std.proofs.Math.Bool.{or-true}
+use Rattle.std.proofs.lemmas.Bool.Decides.{nat_tests, same_from_decides}
 use Rattle.std.proofs.lemmas.Slice.Eq.{bytes_eq-Decides}
 use Rattle.std.proofs.lemmas.List.{append-nil, append_assoc, take_more, length-map, get_or-map, same_lists, get_or_append_left, get_or_at}
 use Rattle.std.proofs.lemmas.List.Elements.{filter-append, All-head, All-tail}
@@ -126,11 +127,11 @@ has-at xs k d l = list_any_at (λ w. bytes_eq w (get_or xs k d)) xs k d l (bytes
 pub has-front : (xs zs : List (List ℕ)) (v : List ℕ) → has xs v ≡ true → has (xs ++ zs) v ≡ true
 has-front xs zs v h = list_any-append (λ w. bytes_eq w v) xs zs ∙ ap (λ (b : Bool). b || has zs v) h
 
-length-below : (n : ℕ) → length (below n) ≡ n
+pub length-below : (n : ℕ) → length (below n) ≡ n
 length-below zero = refl
 length-below (suc n) = rw length-append (omega (arith, length-below n))
 
-get_or-below : (n k : ℕ) (d : ℕ) → k < n → get_or (below n) k d ≡ k
+pub get_or-below : (n k : ℕ) (d : ℕ) → k < n → get_or (below n) k d ≡ k
 get_or-below zero k d l = absurd (omega arith)
 get_or-below (suc n) k d l = elim (cases_lt k n) [
   | inl less ↦ get_or_append_left (below n) (n ∷ []) d k (omega (arith, length-below n)) ∙ get_or-below n k d less
@@ -211,3 +212,71 @@ pub joined_known : (vs more : List (List ℕ)) (i : ℕ) (v : List ℕ) (old new
 joined_known vs more i v old new l item e t n =
     let known : has (distinct (vs ++ take i more)) v ≡ true = ap (λ (z : List (List ℕ)). has z v) (sym e) ∙ t in
     rw (joined_more vs more i v l item, known) (n ∙ e)
+
+-- without a name a list has not that name
+without-lacks : (x : List ℕ) (ys : List (List ℕ)) → has (without x ys) x ≡ false
+without-lacks x [] = refl
+without-lacks x (y ∷ ys) = without_step x y ys (bytes_eq y x) refl (without-lacks x ys)
+  where
+    without_step : (x y : List ℕ) (ys : List (List ℕ)) (b : Bool) → bytes_eq y x ≡ b → has (without x ys) x ≡ false → has (cond (not b) (y ∷ without x ys) (without x ys)) x ≡ false
+    without_step x y ys true t ih = ih
+    without_step x y ys false t ih = rw t ih
+
+differ_step : (x y : List ℕ) (ys : List (List ℕ)) (b : Bool) → bytes_eq y x ≡ b → has ys y ≡ false → Differ (without x ys) → Differ (cond (not b) (y ∷ without x ys) (without x ys))
+differ_step x y ys true t h d = d
+differ_step x y ys false t h d = (has-without x y ys (bytes_eq-swap x y ∙ t) ∙ h, d)
+
+without-differ : (x : List ℕ) (ys : List (List ℕ)) → Differ ys → Differ (without x ys)
+without-differ x [] h = tt
+without-differ x (y ∷ ys) h = differ_step x y ys (bytes_eq y x) refl h.0 (without-differ x ys h.1)
+
+-- a list without repeats has none
+pub distinct-differ : (xs : List (List ℕ)) → Differ (distinct xs)
+distinct-differ [] = tt
+distinct-differ (x ∷ xs) = (without-lacks x (distinct xs), without-differ x (distinct xs) (distinct-differ xs))
+
+place_same_step : (x u v : List ℕ) (xs : List (List ℕ)) → u ≡ v → place (x ∷ xs) u ≡ place (x ∷ xs) v
+place_same_step x u v xs e = ap (λ (w : List ℕ). place (x ∷ xs) w) e
+
+-- the k-th name of a list without repeats has the number k
+pub number-at : (xs : List (List ℕ)) (k : ℕ) (d : List ℕ) → Differ xs → k < length xs → number_in xs (get_or xs k d) ≡ k
+number-at xs k d h l =
+    let whole : place (xs ++ []) (get_or xs k d) ≡ k = place-front xs [] k d h l in
+    number_in-place xs (get_or xs k d) (has-at xs k d l) ∙ ap (λ (ys : List (List ℕ)). place ys (get_or xs k d)) (sym (append-nil xs)) ∙ whole
+
+-- a name of the front has a place in it
+pub place-in-front : (xs zs : List (List ℕ)) (v : List ℕ) → has xs v ≡ true → place (xs ++ zs) v < length xs
+place-in-front [] zs v h = cc
+place-in-front (x ∷ xs) zs v h = front_step (bytes_eq x v) (place-in-front xs zs v) h
+  where
+    front_step : (b : Bool) → (has xs v ≡ true → place (xs ++ zs) v < length xs) → (b || has xs v) ≡ true → cond (not b) (1 + place (xs ++ zs) v) 0 < length (x ∷ xs)
+    front_step true ih h = omega arith
+    front_step false ih h = omega (arith, ih h)
+
+name_step : (p : List ℕ → Bool) (x v : List ℕ) (xs : List (List ℕ)) (b q : Bool) → bytes_eq x v ≡ b → p x ≡ q → (find p xs ≡ None → has xs v ≡ true → p v ≡ false) → cond q (Some x) (find p xs) ≡ None → (b || has xs v) ≡ true → p v ≡ false
+name_step p x v xs b true e q ih h t = cc
+name_step p x v xs true false e q ih h t = ap (λ (w : List ℕ). p w) (sym (bytes_eq-same x v e)) ∙ q
+name_step p x v xs false false e q ih h t = ih h t
+
+-- a search over names that finds none passed each name that the list has
+pub passed_name : (p : List ℕ → Bool) (xs : List (List ℕ)) (v : List ℕ) → find p xs ≡ None → has xs v ≡ true → p v ≡ false
+passed_name p [] v h t = cc
+passed_name p (x ∷ xs) v h t = name_step p x v xs (bytes_eq x v) (p x) refl refl (passed_name p xs v) h t
+
+-- equal names have one number
+pub same-number : (xs : List (List ℕ)) (u v : List ℕ) → bytes_eq u v ≡ true → number_in xs u ≡ number_in xs v
+same-number xs u v t = ap (λ (w : List ℕ). number_in xs w) (bytes_eq-same u v t)
+
+-- a number equals itself
+pub equal-number : (n : ℕ) → nat_eq n n ≡ true
+equal-number n = grind (arith, nat_tests)
+
+number_step : (xs us : List (List ℕ)) (u v : List ℕ) (b : Bool) → bytes_eq u v ≡ b → (has us v ≡ true → list_any (nat_eq (number_in xs v)) (map (number_in xs) us) ≡ true) → (b || has us v) ≡ true
+    → (nat_eq (number_in xs v) (number_in xs u) || list_any (nat_eq (number_in xs v)) (map (number_in xs) us)) ≡ true
+number_step xs us u v true e ih h = rw (same-number xs u v e, equal-number (number_in xs v)) refl
+number_step xs us u v false e ih h = rw (ih h) (or-true (nat_eq (number_in xs v) (number_in xs u)))
+
+-- where a list has a name, the numbers of the list have its number
+pub numbers-have : (xs us : List (List ℕ)) (v : List ℕ) → has us v ≡ true → list_any (nat_eq (number_in xs v)) (map (number_in xs) us) ≡ true
+numbers-have xs [] v h = cc
+numbers-have xs (u ∷ us) v h = number_step xs us u v (bytes_eq u v) refl (numbers-have xs us v) h

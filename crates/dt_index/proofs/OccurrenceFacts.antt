@@ -1,18 +1,17 @@
 -- Where no variable clashes, each occurrence has the extent of the first.
-use Rattle.std.proofs.Common.{◌≡◌, ℕ, zero, suc, ◌+◌, ◌<◌, List, [], ◌∷◌, ◌++◌, length, get_or, map, refl, ap, sym, ◌∙◌, subst, arith, take, min, Bool, true, false, cond, not, ◌||◌, ◌&&◌, All, Option, Some, None, length-append}
-use Rattle.std.specs.Prelude.{find, unwrap_or, option_map, ◌==◌}
+use Rattle.std.proofs.Common.{◌≡◌, ℕ, zero, suc, ◌+◌, ◌<◌, List, [], ◌∷◌, ◌++◌, length, get_or, map, refl, ap, sym, ◌∙◌, subst, arith, take, min, Bool, true, false, cond, not, ◌&&◌, All, Option, Some, None, length-append}
+use Rattle.std.specs.Prelude.{find, option_map, ◌==◌}
 use Rattle.std.specs.List.{list_any, flat_map, zip}
 use Rattle.std.specs.Str.{bytes_eq}
-use Rattle.std.proofs.lemmas.Bool.{eqb-true}
-use Rattle.std.proofs.lemmas.List.{get_or_append_left, get_or-append-add, map_more, append_assoc, take_all, take_more, flat_map_more}
+use Rattle.std.proofs.lemmas.Bool.{eqb-true, or_parts}
+use Rattle.std.proofs.lemmas.List.{get_or_append_left, get_or-append-add, map_more, append_assoc, take_all}
 use Rattle.std.proofs.lemmas.Slice.Zip.{length-zip, get_or-zip}
-use Rattle.std.proofs.lemmas.List.Elements.{All-head, All-tail, All-cons, All-nil}
-use Rattle.std.proofs.lemmas.List.Folds.{list_any_at}
+use Rattle.std.proofs.lemmas.List.Elements.{All-head, All-tail, All-cons, All-nil, All-append}
 use Rattle.dt_index.specs.declared.occurrence_list.Occurrence.{Occurrence}
 use Rattle.dt_index.specs.Known.{Known}
-use Rattle.dt_index.specs.Resolve.{extent_of, extent_clash, named_extents, access_occurrences}
+use Rattle.dt_index.specs.Resolve.{clashes, extent_of, extent_clash, named_extents, access_occurrences}
 use Rattle.dt_index.specs.declared.form.NamedAccess.{NamedAccess}
-use Rattle.dt_index.proofs.NameFacts.{bytes_eq-refl}
+use Rattle.dt_index.proofs.NameFacts.{bytes_eq-refl, has, passed_name}
 
 found_step : {X : Type 0} (x : X) (b : Bool) (rest : Option X) → cond b (Some x) rest ≡ None → (b ≡ false) × (rest ≡ None)
 found_step x true rest h = cc
@@ -28,24 +27,41 @@ pub option_map-none : {X Y : Type 0} (f : X → Y) (o : Option X) → option_map
 option_map-none f None h = refl
 option_map-none f (Some x) h = cc
 
-agrees_step : (o : Occurrence) (os : List Occurrence) (v : List ℕ) (n : ℕ) (b c r s : Bool) → (o.extent == n) ≡ c → ((b && not c) || r) ≡ false → (b || s) ≡ true
-    → (r ≡ false → s ≡ true → extent_of os v ≡ n) → unwrap_or (option_map (λ (p : Occurrence). p.extent) (cond b (Some o) (find (λ p. bytes_eq p.name v) os))) 0 ≡ n
-agrees_step o os v n true true r s t clear there ih = eqb-true o.extent n t
-agrees_step o os v n true false r s t clear there ih = cc
-agrees_step o os v n false c r s t clear there ih = ih clear there
+-- a test that no element passes fails at each place
+pub any_at : {X : Type 0} (p : X → Bool) (xs : List X) (k : ℕ) (d : X) → list_any p xs ≡ false → k < length xs → p (get_or xs k d) ≡ false
+any_at p [] k d h l = absurd (omega arith)
+any_at p (x ∷ xs) zero d h l = (or_parts (p x) (list_any p xs) h).0
+any_at p (x ∷ xs) (suc k) d h l = any_at p xs k d (or_parts (p x) (list_any p xs) h).1 (omega arith)
 
-find_agrees : (os : List Occurrence) (v : List ℕ) (n : ℕ) → list_any (λ p. bytes_eq p.name v && not (p.extent == n)) os ≡ false → list_any (λ p. bytes_eq p.name v) os ≡ true → extent_of os v ≡ n
-find_agrees [] v n clear there = cc
-find_agrees (o ∷ os) v n clear there =
-    agrees_step o os v n (bytes_eq o.name v) (o.extent == n) (list_any (λ p. bytes_eq p.name v && not (p.extent == n)) os) (list_any (λ p. bytes_eq p.name v) os) refl clear there (find_agrees os v n)
+same_from : (n m : ℕ) (b : Bool) → b ≡ true → (b && not (n == m)) ≡ false → m ≡ n
+same_from n m true t h = sym (eqb-true n m (not_not (n == m) h))
+  where
+    not_not : (b : Bool) → not b ≡ false → b ≡ true
+    not_not true h = refl
+    not_not false h = cc
+same_from n m false t h = cc
 
--- where no variable clashes, its first occurrence has the extent of each
-pub first_extents : (os : List Occurrence) → extent_clash os ≡ None → All (λ o. extent_of os o.name ≡ o.extent) os
-first_extents os h k d l =
+-- where no variable clashes, the first occurrence of each has the extent of all
+pub first_extents : (os : List Occurrence) (variables : List (List ℕ)) → All (λ o. has variables o.name ≡ true) os → extent_clash os variables ≡ None → All (λ o. extent_of os o.name ≡ o.extent) os
+first_extents os variables members h k d l =
     let o : Occurrence = get_or os k d in
-    let nothing : find (λ o. list_any (λ p. bytes_eq p.name o.name && not (p.extent == o.extent)) os) os ≡ None = option_map-none _ (find (λ o. list_any (λ p. bytes_eq p.name o.name && not (p.extent == o.extent)) os) os) h in
-    find_agrees os o.name o.extent (find_none (λ o. list_any (λ p. bytes_eq p.name o.name && not (p.extent == o.extent)) os) os k d nothing l)
-    (list_any_at (λ p. bytes_eq p.name o.name) os k d l (bytes_eq-refl o.name))
+    let nothing : find (clashes os) variables ≡ None = option_map-none _ (find (clashes os) variables) h in
+    let clear : clashes os o.name ≡ false = passed_name (clashes os) variables o.name nothing (members k d l) in
+    same_from o.extent (extent_of os o.name) (bytes_eq o.name o.name) (bytes_eq-refl o.name) (any_at (λ p. bytes_eq p.name o.name && not (p.extent == extent_of os o.name)) os k d clear l)
+
+zipped_members : (names vars : List (List ℕ)) (extents : List ℕ) → All (λ v. has names v ≡ true) vars → All {X = Occurrence} (λ o. has names o.name ≡ true) (map (λ p. record { name = p.0; extent = p.1 }) (zip vars extents))
+zipped_members names [] extents h = All-nil {X = Occurrence} (λ o. has names o.name ≡ true)
+zipped_members names (v ∷ vars) [] h = All-nil {X = Occurrence} (λ o. has names o.name ≡ true)
+zipped_members names (v ∷ vars) (n ∷ extents) h =
+    All-cons {X = Occurrence} (λ o. has names o.name ≡ true) (record { name = v; extent = n }) _ (All-head (λ v. has names v ≡ true) v vars h) (zipped_members names vars extents (All-tail (λ v. has names v ≡ true) v vars h))
+
+-- the occurrences of accesses are occurrences of their variables
+pub occurrence_members : (tensors : List Known) (names : List (List ℕ)) (accesses : List NamedAccess) → All (λ a. All (λ v. has names v ≡ true) a.vars) accesses → All {X = Occurrence} (λ o. has names o.name ≡ true) (flat_map (access_occurrences tensors) accesses)
+occurrence_members tensors names [] h = All-nil {X = Occurrence} (λ o. has names o.name ≡ true)
+occurrence_members tensors names (a ∷ accesses) h =
+    All-append {X = Occurrence} (λ o. has names o.name ≡ true) (access_occurrences tensors a) (flat_map (access_occurrences tensors) accesses)
+    (zipped_members names a.vars (named_extents tensors a.tensor) (All-head (λ a. All (λ v. has names v ≡ true) a.vars) a accesses h))
+    (occurrence_members tensors names accesses (All-tail (λ a. All (λ v. has names v ≡ true) a.vars) a accesses h))
 
 All-left : {X : Type 0} (P : X → Type 0) (xs ys : List X) → All P (xs ++ ys) → All P xs
 All-left P xs ys h k d l = subst P (get_or_append_left xs ys d k l) (h k d (rw length-append (omega arith)))
@@ -96,10 +112,3 @@ nothing_zipped (x ∷ xs) = refl
 -- an access of a tensor without dimensions has no occurrences
 pub no_occurrences : (tensors : List Known) (a : NamedAccess) → named_extents tensors a.tensor ≡ [] → access_occurrences tensors a ≡ []
 no_occurrences tensors a h = rw (h, nothing_zipped {X = List ℕ} {Y = ℕ} a.vars) refl
-
--- a loop's step of a list that joins what f gives of each element
-pub joined_step : {X A : Type 0} (f : X → List A) (front : List A) (xs : List X) (i : ℕ) (x : X) (old new : List A) → i < length xs → x ≡ get_or xs i x
-    → old ≡ front ++ flat_map f (take i xs) → new ≡ old ++ f x → new ≡ front ++ flat_map f (take (i + 1) xs)
-joined_step {X} {A} f front xs i x old new l item e n =
-    n ∙ ap (λ (z : List A). z ++ f x) e ∙ flat_map_more f front (take i xs) x
-    ∙ ap (λ (z : List X). front ++ flat_map f z) (sym (take_more xs i x l ∙ ap (λ (w : X). take i xs ++ w ∷ []) (sym item)))

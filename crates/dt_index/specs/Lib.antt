@@ -1,5 +1,7 @@
 pub mod Form
 pub mod Known
+pub mod NextPart
 pub mod NextVar
+pub mod Printed
 pub mod Resolve
 pub mod Symbols

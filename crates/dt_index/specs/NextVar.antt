@@ -3,8 +3,8 @@ use Rattle.std.specs.Prelude.{◌≡◌, ◌<◌, List, [], ◌∷◌, length, O
 use Rattle.dt_model.specs.declared.cause.Cause.TheVariants as cause
 use Rattle.dt_model.specs.Steps.{◌>>=◌}
 use Rattle.dt_index.specs.Form.{vars_of}
-use Rattle.dt_index.specs.declared.form.NextVar.{NextVar}
-use Rattle.dt_index.specs.declared.form.NextVar.TheVariants.{Last, More, Wrong}
+use Rattle.dt_index.specs.declared.form_reading.NextVar.{NextVar}
+use Rattle.dt_index.specs.declared.form_reading.NextVar.TheVariants.{Last, More, Wrong}
 use Rattle.dt_index.specs.declared.symbol_list.Symbol.{Symbol}
 
 -- the symbols are no list of variables, or its last one, or one of them and the symbols of more

@@ -1,22 +1,29 @@
 //! Statements in index notation: their symbols, their form, and what they say of the tensors that are known.
 #![tactic(auto)]
 
+mod access_list;
 mod form;
+mod form_reading;
 mod lookup;
 mod numbering;
 mod occurrence_list;
 mod occurrences;
 mod offenders;
+mod parsing;
+mod printing;
 #[cfg(test)]
-mod resolve_tests;
+mod printing_tests;
 mod resolving;
 mod symbol_list;
 mod symbols;
 #[cfg(test)]
 mod tests;
 
-pub use form::{Form, NamedAccess, NamedAccesses, read_form};
+pub use form::{Form, NamedAccess, NamedFactor, NamedFactors, NamedTerm, NamedTerms};
+pub use form_reading::read_form;
 pub use lookup::Lookup;
+pub use parsing::parse_stmt;
+pub use printing::{print_stmt, printed_is_read_again};
 pub use resolving::resolve;
 pub use symbol_list::{Symbol, Symbols};
 pub use symbols::read_symbols;

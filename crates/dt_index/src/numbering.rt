@@ -1,11 +1,11 @@
 //! A statement by numbers, in place of names.
 
 ghost use Rattle.std.specs.Prelude.{◌≡◌, ◌≤◌, ◌<◌, ◌++◌, ℕ, List, length, map, position, IfOk, IfSome, OnOk};
-ghost use Rattle.std.specs.List.{list_any};
+ghost use Rattle.std.specs.List.{flat_map, list_any};
 ghost use Rattle.std.specs.Str.{bytes_eq};
-ghost use Rattle.dt_index.specs.Resolve.{distinct, variables_of, extent_of, number_in, numbered, stmt_by};
+ghost use Rattle.dt_index.specs.Resolve.{distinct, extent_of, number_in, numbered, numbered_factor, numbered_term, stmt_by};
 
-use crate::form::{Form, NamedAccess};
+use crate::form::{Form, NamedAccess, NamedFactor, NamedTerm};
 use crate::lookup::Lookup;
 use crate::occurrence_list::Occurrence;
 use crate::offenders::same_name;
@@ -13,13 +13,12 @@ use dt_base::{Extents, Name, Names, NoMemory, Vars};
 use dt_model::{Access, Factor, Factors, Stmt, Term, Terms};
 use std::alloc::Global;
 
-/// The variables of a statement, by first occurrence.
-pub(crate) fn variables_in(alloc: Global, form: &Form) -> Result<Names, NoMemory>
-    ensures { IfOk result (λ vs. vs ≡ variables_of form.now) }
+/// The variables of accesses, by first occurrence.
+pub(crate) fn variables_in(alloc: Global, accesses: &[&NamedAccess]) -> Result<Names, NoMemory>
+    ensures { IfOk result (λ vs. vs ≡ distinct (flat_map (λ a. a.vars) (map (λ a. a.now) accesses.now))) }
 {
     let mut variables = Names::new(alloc);
-    add_new(&mut variables, form.lhs.vars.as_slice())?;
-    for access in form.factors.as_slice() {
+    for access in accesses {
         add_new(&mut variables, access.vars.as_slice())?;
     }
     Ok(variables)
@@ -37,7 +36,7 @@ fn add_new(names: &mut Names, more: &[Name]) -> Result<(), NoMemory>
     Ok(())
 }
 
-fn has_name(names: &[Name], name: &Name) -> bool
+pub(crate) fn has_name(names: &[Name], name: &Name) -> bool
     ensures { result ≡ list_any (λ w. bytes_eq w name.now) names.now }
 {
     names.iter().any(|other| same_name(other, name))
@@ -54,21 +53,53 @@ pub(crate) fn statement<L: Lookup>(
     requires { length variables.now ≤ 8 }
     ensures { IfOk result (λ s. s ≡ stmt_by (L.tensors names.now) variables.now occurrences.now form.now) }
 {
-    let mut factors = Factors::new(alloc);
-    for access in form.factors.as_slice() {
-        factors.push(Factor::Read(numbered(alloc, access, names, variables)?))?;
-    }
     let mut terms = Terms::new(alloc);
-    terms.push(Term {
-        minus: false,
-        factors,
-    })?;
+    for term in form.terms.as_slice() {
+        terms.push(numbered_term(alloc, term, names, variables)?)?;
+    }
     Ok(Stmt {
         lhs: numbered(alloc, &form.lhs, names, variables)?,
-        adds: false,
+        adds: form.adds,
         terms,
         extents: extents(alloc, variables, occurrences)?,
     })
+}
+
+fn numbered_term<L: Lookup>(
+    alloc: Global,
+    term: &NamedTerm,
+    names: &L,
+    variables: &[Name],
+) -> Result<Term, NoMemory>
+    requires { length variables.now ≤ 8 }
+    ensures { IfOk result (λ t. t ≡ numbered_term (L.tensors names.now) variables.now term.now) }
+{
+    let mut factors = Factors::new(alloc);
+    for factor in term.factors.as_slice() {
+        factors.push(numbered_factor(alloc, factor, names, variables)?)?;
+    }
+    Ok(Term {
+        minus: term.minus,
+        factors,
+    })
+}
+
+fn numbered_factor<L: Lookup>(
+    alloc: Global,
+    factor: &NamedFactor,
+    names: &L,
+    variables: &[Name],
+) -> Result<Factor, NoMemory>
+    requires { length variables.now ≤ 8 }
+    ensures { IfOk result (λ f. f ≡ numbered_factor (L.tensors names.now) variables.now factor.now) }
+{
+    match factor {
+        NamedFactor::Read(access) => {
+            let access = numbered(alloc, access, names, variables)?;
+            Ok(Factor::Read(access))
+        }
+        NamedFactor::Literal(value) => Ok(Factor::Literal(value.unwrap_or(0))),
+    }
 }
 
 fn numbered<L: Lookup>(
@@ -125,7 +156,7 @@ fn extents(
 }
 
 /// The extent of a variable where it first stands.
-fn extent_of(variable: &Name, occurrences: &[Occurrence]) -> u32
+pub(crate) fn extent_of(variable: &Name, occurrences: &[Occurrence]) -> u32
     ensures { result ≡ extent_of occurrences.now variable.now }
 {
     let first = occurrences

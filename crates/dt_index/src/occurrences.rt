@@ -2,10 +2,10 @@
 
 ghost use Rattle.std.specs.Prelude.{◌≡◌, ◌≤◌, ◌++◌, [], length, All, IfOk, IfSome, OnOk, option_map, unwrap_or, map};
 ghost use Rattle.dt_model.specs.Shape.{dims, IsShape};
-ghost use Rattle.std.specs.List.{zip};
-ghost use Rattle.dt_index.specs.Resolve.{accesses_of, named_extents, access_occurrences, occurrences};
+ghost use Rattle.std.specs.List.{flat_map, zip};
+ghost use Rattle.dt_index.specs.Resolve.{named_extents, access_occurrences};
 
-use crate::form::{Form, NamedAccess};
+use crate::form::NamedAccess;
 use crate::lookup::Lookup;
 use crate::occurrence_list::{Occurrence, Occurrences};
 use dt_base::{Name, NoMemory};
@@ -24,18 +24,17 @@ pub(crate) fn named_shape<L: Lookup>(names: &L, name: &[u8]) -> Option<Shape>
     }
 }
 
-/// The variables of a statement where they stand, from the left.
+/// The variables of accesses where they stand, from the left.
 pub(crate) fn occurrences_in<L: Lookup>(
     alloc: Global,
-    form: &Form,
+    accesses: &[&NamedAccess],
     names: &L,
 ) -> Result<Occurrences, NoMemory>
-    ensures value { IfOk result (λ os. os ≡ occurrences (L.tensors names.now) form.now) }
-    ensures few { OnOk result (All (λ a. length (named_extents (L.tensors names.now) a.tensor) ≤ 4) (accesses_of form.now)) }
+    ensures value { IfOk result (λ os. os ≡ flat_map (access_occurrences (L.tensors names.now)) (map (λ a. a.now) accesses.now)) }
+    ensures few { OnOk result (All (λ a. length (named_extents (L.tensors names.now) a.tensor) ≤ 4) (map (λ a. a.now) accesses.now)) }
 {
     let mut all = Occurrences::new(alloc);
-    add_occurrences(&mut all, &form.lhs, names)?;
-    for access in form.factors.as_slice() {
+    for access in accesses {
         add_occurrences(&mut all, access, names)?;
     }
     Ok(all)

@@ -1,35 +1,65 @@
 //! The first offender of each kind in a statement.
 
-ghost use Rattle.std.specs.Prelude.{◌≡◌, ◌==◌, length, not, ◌&&◌, is_none, find, count_by, nat_le};
-ghost use Rattle.std.specs.List.{list_any};
+ghost use Rattle.std.specs.Prelude.{◌≡◌, ◌==◌, length, not, is_none, find, count_by, nat_le, map};
+ghost use Rattle.std.specs.List.{list_all, list_any};
 ghost use Rattle.std.specs.Option.{option_copied};
 ghost use Rattle.std.specs.Str.{bytes_eq};
 ghost use Rattle.dt_index.specs.Known.{place_of};
-ghost use Rattle.dt_index.specs.Resolve.{named_extents, unknown_tensor, wrong_order, lhs_repeats, output_read, has_dense_output, extent_clash};
+ghost use Rattle.dt_index.specs.Resolve.{accesses_of, clashes, extent_clash, factor_has, has_dense_output, has_few_terms, has_good_literals, is_bad_literal, is_uneven, lhs_repeats, named_extents, output_read, right_accesses, term_has, uneven_reduction, unknown_tensor, wrong_order};
 
-use crate::form::{Form, NamedAccess};
+use crate::form::{Form, NamedAccess, NamedFactor, NamedTerm};
 use crate::lookup::Lookup;
+use crate::numbering::{extent_of, has_name};
 use crate::occurrence_list::Occurrence;
 use crate::occurrences::named_shape;
 use dt_base::Name;
 use dt_model::Cause;
 
-pub(crate) fn unknown_tensor<L: Lookup>(form: &Form, names: &L) -> Option<Cause>
-    ensures { result ≡ unknown_tensor (L.tensors names.now) form.now }
+pub(crate) fn has_good_literals(form: &Form) -> bool
+    ensures { result ≡ has_good_literals form.now }
 {
-    if is_unknown(&form.lhs, names) {
-        return Some(Cause::UnknownTensor(form.lhs.tensor.copied()));
-    }
-    match first_unknown(form.factors.as_slice(), names) {
-        None => None,
-        Some(access) => Some(Cause::UnknownTensor(access.tensor.copied())),
+    !some_term_is_bad(form.terms.as_slice())
+}
+
+fn some_term_is_bad(terms: &[NamedTerm]) -> bool
+    ensures { result ≡ list_any (λ t. list_any is_bad_literal t.factors) terms.now }
+{
+    terms.iter().any(|term| has_bad_literal(term))
+}
+
+fn has_bad_literal(term: &NamedTerm) -> bool
+    ensures { result ≡ list_any is_bad_literal term.now.factors }
+{
+    term.factors
+        .as_slice()
+        .iter()
+        .any(|factor| is_bad_literal(factor))
+}
+
+fn is_bad_literal(factor: &NamedFactor) -> bool
+    ensures { result ≡ is_bad_literal factor.now }
+{
+    match factor {
+        NamedFactor::Read(_) => false,
+        NamedFactor::Literal(value) => value.is_none(),
     }
 }
 
-fn first_unknown<'a, L: Lookup>(accesses: &'a [NamedAccess], names: &L) -> Option<&'a NamedAccess>
-    ensures { option_copied result ≡ find (λ a. is_none (place_of a.tensor (L.tensors names.now))) accesses.now }
+/// The first of all accesses whose tensor is not known.
+pub(crate) fn unknown_tensor<L: Lookup>(
+    form: &Form,
+    accesses: &[&NamedAccess],
+    names: &L,
+) -> Option<Cause>
+    requires { map (λ a. a.now) accesses.now ≡ accesses_of form.now }
+    ensures { result ≡ unknown_tensor (L.tensors names.now) form.now }
 {
-    accesses.iter().find(|access| is_unknown(access, names))
+    for access in accesses {
+        if is_unknown(access, names) {
+            return Some(Cause::UnknownTensor(access.tensor.copied()));
+        }
+    }
+    None
 }
 
 fn is_unknown<L: Lookup>(access: &NamedAccess, names: &L) -> bool
@@ -38,27 +68,21 @@ fn is_unknown<L: Lookup>(access: &NamedAccess, names: &L) -> bool
     names.find(access.tensor.as_slice()).is_none()
 }
 
-pub(crate) fn wrong_order<L: Lookup>(form: &Form, names: &L) -> Option<Cause>
+/// The first of all accesses that has not as many variables as its tensor has dimensions.
+pub(crate) fn wrong_order<L: Lookup>(
+    form: &Form,
+    accesses: &[&NamedAccess],
+    names: &L,
+) -> Option<Cause>
+    requires { map (λ a. a.now) accesses.now ≡ accesses_of form.now }
     ensures { result ≡ wrong_order (L.tensors names.now) form.now }
 {
-    if has_wrong_order(&form.lhs, names) {
-        return Some(Cause::WrongOrder(form.lhs.tensor.copied()));
+    for access in accesses {
+        if has_wrong_order(access, names) {
+            return Some(Cause::WrongOrder(access.tensor.copied()));
+        }
     }
-    match first_wrong_order(form.factors.as_slice(), names) {
-        None => None,
-        Some(access) => Some(Cause::WrongOrder(access.tensor.copied())),
-    }
-}
-
-fn first_wrong_order<'a, L: Lookup>(
-    accesses: &'a [NamedAccess],
-    names: &L,
-) -> Option<&'a NamedAccess>
-    ensures { option_copied result ≡ find (λ a. not (length a.vars == length (named_extents (L.tensors names.now) a.tensor))) accesses.now }
-{
-    accesses
-        .iter()
-        .find(|access| has_wrong_order(access, names))
+    None
 }
 
 fn has_wrong_order<L: Lookup>(access: &NamedAccess, names: &L) -> bool
@@ -103,21 +127,17 @@ fn count_of(variable: &Name, variables: &[Name]) -> usize
         .count()
 }
 
-pub(crate) fn output_read(form: &Form) -> Option<Cause>
+/// The left tensor, where it is one of the right side's.
+pub(crate) fn output_read(form: &Form, right: &[&NamedAccess]) -> Option<Cause>
+    requires { map (λ a. a.now) right.now ≡ right_accesses form.now }
     ensures { result ≡ output_read form.now }
 {
-    match first_access_of(&form.lhs.tensor, form.factors.as_slice()) {
-        None => None,
-        Some(access) => Some(Cause::OutputRead(access.tensor.copied())),
+    for access in right {
+        if same_name(&access.tensor, &form.lhs.tensor) {
+            return Some(Cause::OutputRead(access.tensor.copied()));
+        }
     }
-}
-
-fn first_access_of<'a>(tensor: &Name, accesses: &'a [NamedAccess]) -> Option<&'a NamedAccess>
-    ensures { option_copied result ≡ find (λ a. bytes_eq a.tensor tensor.now) accesses.now }
-{
-    accesses
-        .iter()
-        .find(|access| same_name(&access.tensor, tensor))
+    None
 }
 
 pub(crate) fn has_dense_output<L: Lookup>(form: &Form, names: &L) -> bool
@@ -129,28 +149,87 @@ pub(crate) fn has_dense_output<L: Lookup>(form: &Form, names: &L) -> bool
     }
 }
 
-pub(crate) fn extent_clash(occurrences: &[Occurrence]) -> Option<Cause>
-    ensures { result ≡ extent_clash occurrences.now }
+pub(crate) fn extent_clash(occurrences: &[Occurrence], variables: &[Name]) -> Option<Cause>
+    ensures { result ≡ extent_clash occurrences.now variables.now }
 {
-    match first_clash(occurrences) {
+    match first_clash(occurrences, variables) {
         None => None,
-        Some(occurrence) => Some(Cause::ExtentClash(occurrence.name.copied())),
+        Some(variable) => Some(Cause::ExtentClash(variable.copied())),
     }
 }
 
-fn first_clash(occurrences: &[Occurrence]) -> Option<&Occurrence>
-    ensures { option_copied result ≡ find (λ o. list_any (λ p. bytes_eq p.name o.name && not (p.extent == o.extent)) occurrences.now) occurrences.now }
+fn first_clash<'a>(occurrences: &[Occurrence], variables: &'a [Name]) -> Option<&'a Name>
+    ensures { option_copied result ≡ find (clashes occurrences.now) variables.now }
 {
-    occurrences
+    variables
         .iter()
-        .find(|occurrence| clashes(occurrence, occurrences))
+        .find(|variable| clashes(occurrences, variable))
 }
 
-fn clashes(occurrence: &Occurrence, occurrences: &[Occurrence]) -> bool
-    ensures { result ≡ list_any (λ p. bytes_eq p.name occurrence.now.name && not (p.extent == occurrence.now.extent)) occurrences.now }
+fn clashes(occurrences: &[Occurrence], variable: &Name) -> bool
+    ensures { result ≡ clashes occurrences.now variable.now }
 {
-    occurrences.iter().any(|other| same_name(&other.name, &occurrence.name)
-        && other.extent != occurrence.extent)
+    let extent = extent_of(variable, occurrences);
+    occurrences.iter().any(|other| same_name(&other.name, variable) && other.extent != extent)
+}
+
+pub(crate) fn uneven_reduction(form: &Form, variables: &[Name]) -> Option<Cause>
+    ensures { result ≡ uneven_reduction form.now variables.now }
+{
+    match first_uneven(form, variables) {
+        None => None,
+        Some(variable) => Some(Cause::UnevenReduction(variable.copied())),
+    }
+}
+
+fn first_uneven<'a>(form: &Form, variables: &'a [Name]) -> Option<&'a Name>
+    ensures { option_copied result ≡ find (is_uneven form.now) variables.now }
+{
+    variables.iter().find(|variable| is_uneven(form, variable))
+}
+
+fn is_uneven(form: &Form, variable: &Name) -> bool
+    ensures { result ≡ is_uneven form.now variable.now }
+{
+    !has_name(form.lhs.vars.as_slice(), variable)
+        && some_term_lacks(form.terms.as_slice(), variable)
+}
+
+fn some_term_lacks(terms: &[NamedTerm], variable: &Name) -> bool
+    ensures { result ≡ list_any (λ t. not (term_has variable.now t)) terms.now }
+{
+    terms.iter().any(|term| !term_has(term, variable))
+}
+
+fn term_has(term: &NamedTerm, variable: &Name) -> bool
+    ensures { result ≡ term_has variable.now term.now }
+{
+    term.factors
+        .as_slice()
+        .iter()
+        .any(|factor| factor_has(factor, variable))
+}
+
+fn factor_has(factor: &NamedFactor, variable: &Name) -> bool
+    ensures { result ≡ factor_has variable.now factor.now }
+{
+    match factor {
+        NamedFactor::Read(access) => has_name(access.vars.as_slice(), variable),
+        NamedFactor::Literal(_) => false,
+    }
+}
+
+/// Whether there are at most 16 terms, with at most 8 factors each.
+pub(crate) fn has_few_terms(form: &Form) -> bool
+    ensures { result ≡ has_few_terms form.now }
+{
+    form.terms.as_slice().len() <= 16 && have_few_factors(form.terms.as_slice())
+}
+
+fn have_few_factors(terms: &[NamedTerm]) -> bool
+    ensures { result ≡ list_all (λ t. nat_le (length t.factors) 8) terms.now }
+{
+    terms.iter().all(|term| term.factors.as_slice().len() <= 8)
 }
 
 pub(crate) fn same_name(left: &Name, right: &Name) -> bool

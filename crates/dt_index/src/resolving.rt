@@ -2,16 +2,18 @@
 
 ghost use Rattle.std.specs.Prelude.{◌≡◌, IfOk};
 ghost use Rattle.dt_model.specs.Steps.{Gives};
-ghost use Rattle.dt_model.specs.Stmts.{IsStmt};
+ghost use Rattle.dt_model.specs.Stmts.{AreEven, AreUsed, IsStmt};
 ghost use Rattle.dt_index.specs.Known.{shapes_of_known};
-ghost use Rattle.dt_index.specs.Resolve.{Resolved, resolved_of};
+ghost use Rattle.dt_index.specs.Resolve.{Resolved, IsSmall, resolved_of};
 
+use crate::access_list::{all_accesses, right_accesses};
 use crate::form::Form;
 use crate::lookup::Lookup;
 use crate::numbering::{statement, variables_in};
 use crate::occurrences::occurrences_in;
 use crate::offenders::{
-    extent_clash, has_dense_output, lhs_repeats, output_read, unknown_tensor, wrong_order,
+    extent_clash, has_dense_output, has_few_terms, has_good_literals, lhs_repeats, output_read,
+    uneven_reduction, unknown_tensor, wrong_order,
 };
 use dt_base::Names;
 use dt_model::{Cause, LineEnd, Stmt};
@@ -25,27 +27,41 @@ const MOST_VARIABLES: usize = 8;
 pub fn resolve<L: Lookup>(alloc: Global, form: &Form, names: &L) -> Result<(Stmt, Names), LineEnd>
     ensures given { Gives (λ r. record { stmt = r.0; variables = r.1 }) result (resolved_of (L.tensors names.now) form.now) }
     ensures lawful { IfOk result (λ r. IsStmt (shapes_of_known (L.tensors names.now)) r.0) }
+    ensures used { IfOk result (λ r. AreUsed r.0) }
+    ensures even { IfOk result (λ r. AreEven r.0) }
+    ensures small { IfOk result (λ r. IsSmall r.0) }
 {
-    if let Some(cause) = unknown_tensor(form, names) {
+    if !has_good_literals(form) {
+        return Err(LineEnd::Refused(Cause::BadNumber));
+    }
+    let right = right_accesses(alloc, form)?;
+    let accesses = all_accesses(alloc, form, right.as_slice())?;
+    if let Some(cause) = unknown_tensor(form, accesses.as_slice(), names) {
         return Err(LineEnd::Refused(cause));
     }
-    if let Some(cause) = wrong_order(form, names) {
+    if let Some(cause) = wrong_order(form, accesses.as_slice(), names) {
         return Err(LineEnd::Refused(cause));
     }
     if let Some(cause) = lhs_repeats(form) {
         return Err(LineEnd::Refused(cause));
     }
-    if let Some(cause) = output_read(form) {
+    if let Some(cause) = output_read(form, right.as_slice()) {
         return Err(LineEnd::Refused(cause));
     }
     if !has_dense_output(form, names) {
         return Err(LineEnd::Refused(Cause::OutputFormat(form.lhs.tensor.copied())));
     }
-    let occurrences = occurrences_in(alloc, form, names)?;
-    if let Some(cause) = extent_clash(occurrences.as_slice()) {
+    let variables = variables_in(alloc, accesses.as_slice())?;
+    let occurrences = occurrences_in(alloc, accesses.as_slice(), names)?;
+    if let Some(cause) = extent_clash(occurrences.as_slice(), variables.as_slice()) {
         return Err(LineEnd::Refused(cause));
     }
-    let variables = variables_in(alloc, form)?;
+    if let Some(cause) = uneven_reduction(form, variables.as_slice()) {
+        return Err(LineEnd::Refused(cause));
+    }
+    if !has_few_terms(form) {
+        return Err(LineEnd::Refused(Cause::TooManyTerms));
+    }
     if variables.as_slice().len() > MOST_VARIABLES {
         return Err(LineEnd::Refused(Cause::TooManyLoops));
     }

@@ -6,15 +6,19 @@ use dt_base::{Name, NoMemory};
 use std::alloc::Global;
 use std::marker::Model;
 
-/// A symbol of a statement's text.
+/// A symbol of a statement's text. A number has no value where its digits are more than 20, or reach 2^64.
 #[derive(Debug, Drop)]
 pub enum Symbol {
     Name(Name),
+    Number(Option<u64>),
     Open,
     Close,
     Comma,
     Times,
+    Plus,
+    Minus,
     Equals,
+    PlusEquals,
 }
 
 /// The symbols of a text, in order.

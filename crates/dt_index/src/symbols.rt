@@ -1,15 +1,15 @@
 //! The symbols of a statement's text.
 
-ghost use Rattle.std.specs.Prelude.{◌≡◌, ◌<◌, ◌≤◌, ◌∷◌, [], IfNone, IfSome, length, max, take, drop};
+ghost use Rattle.std.specs.Prelude.{◌≡◌, ◌<◌, ◌≤◌, ◌∷◌, [], IfNone, IfSome, length, take, drop};
 ghost use Rattle.std.specs.List.{prefix_len};
 ghost use Rattle.dt_model.specs.Steps.{Gives};
 ghost use Rattle.dt_text.specs.Names.{is_name_byte};
-ghost use Rattle.dt_index.specs.Symbols.{pieces_of, sign_of, symbol_of, symbols_of};
+ghost use Rattle.dt_index.specs.Symbols.{first_len, pieces_of, sign_of, starts_with_plus_equals, symbol_of, symbols_of};
 
 use crate::symbol_list::{Symbol, Symbols};
 use dt_base::Name;
 use dt_model::{Cause, LineEnd};
-use dt_text::{behind_blanks, is_name, is_name_byte};
+use dt_text::{behind_blanks, is_name, is_name_byte, is_numeral, number};
 use std::alloc::Global;
 
 /// The symbols of the text, or Syntax where a piece of it is no symbol.
@@ -45,14 +45,24 @@ fn next_piece(text: &[u8]) -> Option<(&[u8], &[u8])>
     Some(rest.split_at(piece_len(rest)))
 }
 
-/// How long the piece is that begins a text: a word's length, or one byte.
+/// How long the piece is that begins a text: the two bytes of `+=`, a word's length, or one byte.
 fn piece_len(text: &[u8]) -> usize
     requires { 0 < length text.now }
     ensures within { result ≤ length text.now }
     ensures some { 0 < result }
-    ensures value { result ≡ max 1 (prefix_len is_name_byte text.now) }
+    ensures value { result ≡ first_len text.now }
 {
-    name_len(text).max(1)
+    if starts_with_plus_equals(text) {
+        2
+    } else {
+        name_len(text).max(1)
+    }
+}
+
+fn starts_with_plus_equals(text: &[u8]) -> bool
+    ensures { result ≡ starts_with_plus_equals text.now }
+{
+    matches!(text, [b'+', b'=', ..])
 }
 
 /// How many bytes of a name stand at the front.
@@ -68,6 +78,8 @@ fn symbol(piece: &[u8]) -> Option<Symbol>
 {
     if is_name(piece) {
         Some(Symbol::Name(Name::from_slice(piece)))
+    } else if is_numeral(piece) {
+        Some(Symbol::Number(number(piece)))
     } else {
         sign(piece)
     }
@@ -81,7 +93,10 @@ fn sign(piece: &[u8]) -> Option<Symbol>
         [b')'] => Some(Symbol::Close),
         [b','] => Some(Symbol::Comma),
         [b'*'] => Some(Symbol::Times),
+        [b'+'] => Some(Symbol::Plus),
+        [b'-'] => Some(Symbol::Minus),
         [b'='] => Some(Symbol::Equals),
+        [b'+', b'='] => Some(Symbol::PlusEquals),
         _ => None,
     }
 }
