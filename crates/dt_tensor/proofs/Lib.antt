@@ -1,0 +1,7 @@
+pub mod Assignments
+pub mod Coordinates
+pub mod DenseTensors
+pub mod EntryLemmas
+pub mod PackLemmas
+pub mod Prefixes
+pub mod Tables

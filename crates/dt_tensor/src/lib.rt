@@ -1,0 +1,14 @@
+//! Tensors as they are stored: the stored coordinates in order, and one number for each.
+#![tactic(auto)]
+
+mod entry;
+mod packing;
+mod tensor;
+mod tensors;
+#[cfg(test)]
+mod tests;
+
+pub use entry::{Entries, Given};
+pub use packing::{PackEnd, pack};
+pub use tensor::Tensor;
+pub use tensors::Tensors;

@@ -1,0 +1,86 @@
+//! A list of tensors.
+
+ghost use Rattle.std.specs.Prelude.{◌≡◌, ◌<◌, Some, length, slice_get};
+
+use crate::tensor::Tensor;
+use dt_base::Coords;
+use dt_model::{Locator, Shape};
+use std::marker::Model;
+
+/// Tensors by number.
+#[derive(Debug, Drop)]
+pub struct Tensors {
+    items: Vec<Tensor>,
+}
+
+impl Model for Tensors {
+    ghost use Rattle.std.specs.Prelude.{List};
+    ghost use Rattle.dt_tensor.specs.Packed.{Packed};
+
+    ghost Value = { List Packed };
+
+    ghost view = { λ l. l.items.items };
+}
+
+impl Tensors {
+    /// The tensors of a list, by their places in it.
+    pub fn from_list(list: Vec<Tensor>) -> Tensors
+        ensures { result ≡ list.items }
+    {
+        Tensors { items: list }
+    }
+
+    pub fn len(&self) -> usize
+        ensures { result ≡ length self.now }
+    {
+        self.items.len()
+    }
+
+    pub fn as_slice(&self) -> &[Tensor]
+        ensures { result.now ≡ self.now }
+    {
+        self.items.as_slice()
+    }
+
+    pub fn get(&self, tensor: u32) -> &Tensor
+        requires { tensor < length self.now }
+        ensures { slice_get self.now tensor ≡ Some result.now }
+    {
+        &self.items.as_slice()[tensor as usize]
+    }
+}
+
+impl Locator for Tensors {
+    ghost use Rattle.std.specs.Prelude.{map};
+    ghost use Rattle.dt_tensor.specs.Packed.{stored_of};
+
+    ghost tensors = { λ l. map stored_of l };
+
+    fn place(&self, tensor: u32, c: &[u32]) -> Option<u32> {
+        self.get(tensor).place(c)
+    }
+
+    fn coords(&self, tensor: u32, pos: u32) -> Coords {
+        self.get(tensor).coords(*self.items.allocator(), pos)
+    }
+
+    fn count(&self, tensor: u32) -> u32 {
+        self.get(tensor).stored()
+    }
+
+    fn has_prefix(&self, tensor: u32, c: &[u32]) -> bool {
+        self.get(tensor).has_prefix(c)
+    }
+
+    fn shape(&self, tensor: u32) -> Shape {
+        self.get(tensor).shape()
+    }
+
+    fn cost(&self, tensor: u32) -> u32 {
+        self.get(tensor).cost()
+    }
+
+    fn next_child(&self, tensor: u32, prefix: &[u32], from: u32) -> Option<u32> {
+        self.get(tensor).next_child(prefix, from)
+    }
+}
