@@ -1,3 +1,6 @@
-pub mod DraftFacts
+pub mod ContentFacts
+pub mod FillFacts
 pub mod ReadLaws
+pub mod PieceLemmas
+pub mod Unread
 pub mod Words

@@ -10,7 +10,7 @@ use Rattle.dt_model.specs.declared.cause.Cause.{Cause}
 use Rattle.dt_model.specs.declared.cause.Cause.TheVariants as cause
 use Rattle.dt_model.specs.Steps.{◌>>=◌}
 use Rattle.dt_model.proofs.Fronts.{with_front, with_front-push, with_front-end}
-use Rattle.dt_job.specs.Numerals.{is_numeral, numbers_of}
+use Rattle.dt_job.specs.Shapes.{numbers_of}
 
 -- the words from the i-th on
 abbrev pub words_from : List ℕ → List Token → ℕ → List (List ℕ)
@@ -54,18 +54,18 @@ pub number_end : (text : List ℕ) (tokens : List Token) (i : ℕ) (front : List
 number_end text tokens i front whole h w =
     sym w ∙ ap (λ (ws : List (List ℕ)). with_front front (numbers_of ws)) (words_from-end text tokens i h) ∙ ap (λ (r : Result (List ℕ) Cause). with_front front r) numbers_of-nil ∙ with_front-end front
 
--- the next word is digits
-pub digits_more : (text : List ℕ) (tokens : List Token) (i : ℕ) (d : Token) (w : List ℕ) (whole : Bool) → i < length tokens → w ≡ token_in text (get_or tokens i d) → is_numeral w ≡ true
-    → list_all is_numeral (words_from text tokens i) ≡ whole → list_all is_numeral (words_from text tokens (i + 1)) ≡ whole
-digits_more text tokens i d w whole h e s k =
-    ap (λ (b : Bool). b && list_all is_numeral (words_from text tokens (i + 1))) (sym s) ∙ ap (λ (ws : List (List ℕ)). list_all is_numeral ws) (sym (words_from-next text tokens i d w h e)) ∙ k
+-- the next word passes
+pub words_more : (p : List ℕ → Bool) (text : List ℕ) (tokens : List Token) (i : ℕ) (d : Token) (w : List ℕ) (whole : Bool) → i < length tokens → w ≡ token_in text (get_or tokens i d) → p w ≡ true
+    → list_all p (words_from text tokens i) ≡ whole → list_all p (words_from text tokens (i + 1)) ≡ whole
+words_more p text tokens i d w whole h e s k =
+    ap (λ (b : Bool). b && list_all p (words_from text tokens (i + 1))) (sym s) ∙ ap (λ (ws : List (List ℕ)). list_all p ws) (sym (words_from-next text tokens i d w h e)) ∙ k
 
--- the next word is no digits
-pub digits_stop : (text : List ℕ) (tokens : List Token) (i : ℕ) (d : Token) (w : List ℕ) (whole : Bool) → i < length tokens → w ≡ token_in text (get_or tokens i d) → is_numeral w ≡ false
-    → list_all is_numeral (words_from text tokens i) ≡ whole → false ≡ whole
-digits_stop text tokens i d w whole h e s k =
-    ap (λ (b : Bool). b && list_all is_numeral (words_from text tokens (i + 1))) (sym s) ∙ ap (λ (ws : List (List ℕ)). list_all is_numeral ws) (sym (words_from-next text tokens i d w h e)) ∙ k
+-- the next word does not pass
+pub words_stop : (p : List ℕ → Bool) (text : List ℕ) (tokens : List Token) (i : ℕ) (d : Token) (w : List ℕ) (whole : Bool) → i < length tokens → w ≡ token_in text (get_or tokens i d) → p w ≡ false
+    → list_all p (words_from text tokens i) ≡ whole → false ≡ whole
+words_stop p text tokens i d w whole h e s k =
+    ap (λ (b : Bool). b && list_all p (words_from text tokens (i + 1))) (sym s) ∙ ap (λ (ws : List (List ℕ)). list_all p ws) (sym (words_from-next text tokens i d w h e)) ∙ k
 
--- every word is digits
-pub digits_end : (text : List ℕ) (tokens : List Token) (i : ℕ) (whole : Bool) → length tokens ≤ i → list_all is_numeral (words_from text tokens i) ≡ whole → true ≡ whole
-digits_end text tokens i whole h k = ap (λ (ws : List (List ℕ)). list_all is_numeral ws) (sym (words_from-end text tokens i h)) ∙ k
+-- every word passes
+pub words_end : (p : List ℕ → Bool) (text : List ℕ) (tokens : List Token) (i : ℕ) (whole : Bool) → length tokens ≤ i → list_all p (words_from text tokens i) ≡ whole → true ≡ whole
+words_end p text tokens i whole h k = ap (λ (ws : List (List ℕ)). list_all p ws) (sym (words_from-end text tokens i h)) ∙ k

@@ -1,5 +1,8 @@
+pub mod Contents
 pub mod Drafts
+pub mod Fills
 pub mod Jobs
 pub mod Lines
-pub mod Numerals
+pub mod Phases
 pub mod Read
+pub mod Shapes

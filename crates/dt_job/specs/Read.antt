@@ -8,8 +8,10 @@ use Rattle.dt_model.specs.declared.cause.LineEnd.TheVariants as line_ends
 use Rattle.dt_job.specs.declared.job.Job.{Job}
 use Rattle.dt_job.specs.declared.reading.JobEnd.{JobEnd}
 use Rattle.dt_job.specs.declared.reading.JobEnd.TheVariants as ends
+use Rattle.dt_job.specs.Contents.{names_of, tensors_of}
 use Rattle.dt_job.specs.Drafts.{DraftView, empty_draft}
-use Rattle.dt_job.specs.Lines.{bytes_line, is_whole}
+use Rattle.dt_job.specs.Lines.{bytes_line}
+use Rattle.dt_job.specs.Phases.{is_whole}
 
 -- the n-th line's answer
 abbrev pub numbered : {A : Type 0} → ℕ → Result A Cause → Result A (ℕ × Cause)
@@ -23,11 +25,11 @@ then_lines (Err e) f = Err e
 
 -- the job that a draft is
 abbrev pub whole_job : DraftView → Job
-whole_job d = record { tensors = d.tensors; stmts = d.stmts; shows = d.shows }
+whole_job d = record { names = names_of d.tensors; tensors = tensors_of d.tensors; stmts = d.stmts; shows = d.shows }
 
 -- the lines from the n-th on: the job, or the first line with a cause
 unfoldable pub lines_from : ℕ → DraftView → List (List ℕ) → Result Job (ℕ × Cause)
-lines_from n d [] = if is_whole d.due then Ok (whole_job d) else Err (n, cause.Unfinished)
+lines_from n d [] = if is_whole d.phase then Ok (whole_job d) else Err (n, cause.Unfinished)
 lines_from n d (bytes ∷ rest) = then_lines (numbered n (bytes_line d bytes)) (λ e. lines_from (n + 1) e rest)
 
 -- the job of a text, or its first line that has a cause, with its first cause

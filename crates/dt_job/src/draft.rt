@@ -1,69 +1,25 @@
 //! What the lines read so far say.
 
-ghost use Rattle.std.specs.Prelude.{◌≡◌, ◌≤◌, ◌<◌, ◌∷◌, ◌++◌, [], length, IfSome, OnOk, OnErr, slice_get, unwrap_or, option_map};
-
+use crate::declaration::Declared;
 use crate::job::Job;
-use crate::places::place;
-use dt_base::{Name, NoMemory, Numbers};
+use crate::keys::Key;
+use crate::outputs::{Show, Shows};
+use crate::phases::Phase;
+use dt_base::{Name, Names, NoMemory};
 use dt_index::Lookup;
-use dt_model::{Shape, Stmt, Stmts, Whole};
+use dt_model::{Shape, Stmt, Stmts};
+use dt_tensor::Tensors;
+use indexmap::IndexMap;
 use std::alloc::Global;
 use std::marker::Model;
 
-/// A tensor with its numbers, 0 each until they are given.
-#[derive(Debug, Drop)]
-pub struct Declared {
-    pub name: Name,
-    pub whole: Whole,
-    pub given: bool,
-}
-
-/// Tensors, in order of declaration.
-#[derive(Debug, Drop)]
-pub struct Declareds {
-    pub items: Vec<Declared>,
-}
-
-impl Model for Declareds {
-    ghost use Rattle.std.specs.Prelude.{List};
-    ghost use Rattle.dt_job.specs.declared.draft.Declared.{Declared};
-
-    ghost Value = { List Declared };
-
-    ghost view = { λ l. l.items.items };
-}
-
-impl Declareds {
-    pub fn as_slice(&self) -> &[Declared]
-        ensures { result.now ≡ self.now }
-    {
-        self.items.as_slice()
-    }
-}
-
-/// What may come next.
-#[derive(Clone, Copy, Debug, PartialEq, Eq)]
-pub enum Due {
-    Version,
-    Machine,
-    /// The first tensor.
-    Tensor,
-    /// A tensor, its numbers, or the statement.
-    Declaration,
-    /// A tensor's numbers, or the statement.
-    Data,
-    End,
-    Output,
-    Nothing,
-}
-
 /// What the lines read so far say.
-#[derive(Debug, Drop)]
+#[derive(Drop)]
 pub struct Draft {
-    tensors: Vec<Declared>,
+    tensors: IndexMap<Name, Declared>,
     stmts: Stmts,
-    shows: Numbers,
-    due: Due,
+    shows: Shows,
+    phase: Phase,
 }
 
 impl Model for Draft {
@@ -71,51 +27,60 @@ impl Model for Draft {
 
     ghost Value = { DraftView };
 
-    ghost view = { λ d. record { tensors = d.tensors.items; stmts = d.stmts; shows = d.shows; due = d.due } };
+    ghost view = { λ d. record { tensors = d.tensors.entries; stmts = d.stmts; shows = d.shows; phase = d.phase } };
 
-    ghost invariant = { λ d. IsDraft (record { tensors = d.tensors.items; stmts = d.stmts; shows = d.shows; due = d.due }) };
+    ghost invariant = { λ d. IsDraft (record { tensors = d.tensors.entries; stmts = d.stmts; shows = d.shows; phase = d.phase }) };
 }
 
 impl Draft {
-    ghost use Rattle.std.specs.Prelude.{◌≡◌, ◌≤◌, ◌<◌, ◌∷◌, ◌++◌, [], length, IfSome, OnOk, OnErr, slice_get, unwrap_or, option_map};
+    ghost use Rattle.std.specs.Prelude.{◌≡◌, ◌≤◌, ◌<◌, ◌∷◌, ◌++◌, [], length, IfOk, IfSome, None, OnOk, OnErr, slice_get, Some, option_map};
     ghost use Rattle.dt_base.specs.Rows.{product};
-    ghost use Rattle.dt_model.specs.Stmts.{shapes_of, IsStmt};
-    ghost use Rattle.dt_index.specs.Known.{place_of};
-    ghost use Rattle.dt_job.specs.Drafts.{DraftView, IsDraft, empty_draft, filled, given_of, known_of};
-    ghost use Rattle.dt_job.specs.Lines.{count_of, is_given};
-    ghost use Rattle.dt_job.specs.Jobs.{IsJob};
+    ghost use Rattle.dt_model.specs.Shape.{dims, IsShape};
+    ghost use Rattle.dt_index.specs.Known.{known_extents, place_of};
+    ghost use Rattle.dt_job.specs.Contents.{position_count_of, extents_of_all, is_given, known_of, with_values};
+    ghost use Rattle.dt_job.specs.Drafts.{DraftView, empty_draft};
+    ghost use Rattle.dt_job.specs.Jobs.{IsJob, IsJobStmt, ShowsBelow};
     ghost use Rattle.dt_job.specs.Read.{whole_job};
-    ghost use Rattle.dt_job.specs.declared.draft.Due.TheVariants as due;
+    ghost use Rattle.dt_job.specs.declared.phases.Phase.TheVariants as phases;
 
     pub fn new(alloc: Global) -> Draft
         ensures { result ≡ empty_draft }
     {
         Draft {
-            tensors: Vec::new(alloc),
+            tensors: IndexMap::new(alloc),
             stmts: Stmts::new(alloc),
-            shows: Numbers::new(alloc),
-            due: Due::Version,
+            shows: Shows::new(alloc),
+            phase: Phase::Version,
         }
     }
 
-    /// What may come next.
-    pub fn due(&self) -> Due
-        ensures { result ≡ self.now.due }
+    /// Where the reading stands.
+    pub fn phase(&self) -> Phase
+        ensures { result ≡ self.now.phase }
     {
-        self.due
+        self.phase
     }
 
-    pub fn expect(&mut self, next: Due)
-        ensures { self.new ≡ record self.old { due = next } }
+    /// Goes on to another phase.
+    pub fn enter(&mut self, next: Phase)
+        ensures { self.new ≡ record self.old { phase = next } }
     {
-        self.due = next;
+        self.phase = next;
     }
 
-    pub fn count(&self) -> usize
+    /// How many tensors there are.
+    pub fn tensor_count(&self) -> usize
         ensures count { result ≡ length self.now.tensors }
-        ensures few { length self.now.tensors ≤ 8 }
+        ensures few { length self.now.tensors ≤ 32 }
     {
         self.tensors.len()
+    }
+
+    /// How many statements there are.
+    pub fn stmt_count(&self) -> usize
+        ensures { result ≡ length self.now.stmts }
+    {
+        self.stmts.as_slice().len()
     }
 
     /// The number of the tensor with this name.
@@ -123,102 +88,109 @@ impl Draft {
         ensures place { result ≡ place_of name.now (known_of self.now.tensors) }
         ensures within { IfSome result (λ k. k < length self.now.tensors) }
     {
-        match place(&self.tensors, name) {
+        match self.tensors.get_index_of(Key(name)) {
             None => None,
             Some(at) => Some(at as u32),
         }
     }
 
-    pub fn tensor(&self, at: u32) -> &Declared
+    fn tensor(&self, at: u32) -> &Declared
         requires { at < length self.now.tensors }
-        ensures { slice_get self.now.tensors at ≡ Some result.now }
+        ensures { option_map (λ t. t.1) (slice_get self.now.tensors at) ≡ Some result.now }
     {
         &self.tensors[at as usize]
     }
 
-    /// Whether the tensor has its numbers already.
+    /// Whether a line has given the tensor's numbers.
     pub fn is_given(&self, at: u32) -> bool
         requires { at < length self.now.tensors }
         ensures { result ≡ is_given self.now.tensors at }
     {
-        self.tensors[at as usize].given
+        self.tensor(at).is_given()
     }
 
-    /// How many numbers the tensor has.
-    pub fn numbers(&self, at: u32) -> usize
+    /// How many positions the tensor has.
+    pub fn position_count(&self, at: u32) -> u32
         requires { at < length self.now.tensors }
-        ensures { result ≡ count_of self.now.tensors at }
+        ensures { result ≡ position_count_of self.now.tensors at }
     {
-        self.tensors[at as usize].whole.values().len()
+        self.tensor(at).position_count()
     }
 
-    /// The job that the lines say.
-    pub fn into_job(self) -> Job
-        ensures job { result ≡ whole_job self }
-        ensures lawful { IsJob result }
-    {
-        let Draft {
-            tensors,
-            stmts,
-            shows,
-            due: _,
-        } = self;
-        Job {
-            tensors: Declareds { items: tensors },
-            stmts,
-            shows,
-        }
-    }
-
-    /// One more tensor.
-    pub fn declare(&mut self, tensor: Declared) -> Result<(), NoMemory>
-        requires { length self.old.tensors < 8 }
-        ensures ok { OnOk result (self.new ≡ record self.old { tensors = self.old.tensors ++ tensor ∷ []; due = due.Declaration }) }
+    /// One more tensor, without numbers.
+    pub fn declare(&mut self, name: Name, shape: Shape) -> Result<(), NoMemory>
+        requires new { place_of name (known_of self.old.tensors) ≡ None }
+        requires few { length self.old.tensors < 32 }
+        requires shape { IsShape shape }
+        requires stored { product (dims shape) ≤ 1048576 }
+        ensures ok { OnOk result (self.new ≡ record self.old { tensors = self.old.tensors ++ (name, record { extents = dims shape; values = None }) ∷ [] }) }
         ensures err { OnErr result (self.new ≡ self.old) }
     {
-        self.tensors.push(tensor)?;
-        self.due = Due::Declaration;
+        self.tensors.insert(name, Declared::new(shape))?;
         Ok(())
     }
 
-    /// The numbers of a tensor.
-    pub fn fill(&mut self, at: u32, values: Vec<u64>)
+    /// The numbers of a tensor, in row-major order.
+    pub fn give(&mut self, at: u32, values: Vec<u64>)
         requires tensor { at < length self.old.tensors }
-        requires count { length values.items ≡ count_of self.old.tensors at }
-        ensures { self.new ≡ record self.old { tensors = filled self.old.tensors at values.items; due = due.Data } }
+        requires count { length values.items ≡ position_count_of self.old.tensors at }
+        ensures { self.new ≡ record self.old { tensors = with_values self.old.tensors at values.items } }
     {
-        let tensor = &mut self.tensors[at as usize];
-        let shape = tensor.whole.shape();
-        tensor.whole = Whole::from_values(shape, values);
-        tensor.given = true;
-        self.due = Due::Data;
+        let given = self.tensor(at).with_values(values);
+        self.tensors[at as usize] = given;
     }
 
-    /// One more statement.
+    /// One more statement, which stays open.
     pub fn state(&mut self, stmt: Stmt) -> Result<(), NoMemory>
-        requires { IsStmt (shapes_of (given_of self.old.tensors)) stmt }
-        ensures ok { OnOk result (self.new ≡ record self.old { stmts = self.old.stmts ++ stmt ∷ []; due = due.End }) }
+        requires few { length self.old.stmts < 32 }
+        requires stands { IsJobStmt (extents_of_all self.old.tensors) stmt }
+        ensures ok { OnOk result (self.new ≡ record self.old { stmts = self.old.stmts ++ stmt ∷ []; phase = phases.Open }) }
         ensures err { OnErr result (self.new ≡ self.old) }
     {
         self.stmts.push(stmt)?;
-        self.due = Due::End;
+        self.phase = Phase::Open;
         Ok(())
     }
 
     /// One more output.
-    pub fn show(&mut self, at: u32) -> Result<(), NoMemory>
-        requires { at < length self.old.tensors }
-        ensures ok { OnOk result (self.new ≡ record self.old { shows = self.old.shows ++ at ∷ []; due = due.Nothing }) }
+    pub fn show(&mut self, show: Show) -> Result<(), NoMemory>
+        requires { ShowsBelow (length self.old.tensors) show }
+        ensures ok { OnOk result (self.new ≡ record self.old { shows = self.old.shows ++ show ∷ []; phase = phases.Outputs }) }
         ensures err { OnErr result (self.new ≡ self.old) }
     {
-        self.shows.push(at)?;
-        self.due = Due::Nothing;
+        self.shows.push(show)?;
+        self.phase = Phase::Outputs;
         Ok(())
+    }
+
+    /// The job that the lines say.
+    pub fn into_job(self, alloc: Global) -> Result<Job, NoMemory>
+        ensures job { IfOk result (λ j. j ≡ whole_job self) }
+        ensures lawful { IfOk result IsJob }
+    {
+        let Draft {
+            tensors: declared,
+            stmts,
+            shows,
+            phase: _,
+        } = self;
+        let mut names = Vec::new(alloc);
+        let mut tensors = Vec::new(alloc);
+        for (name, tensor) in declared {
+            names.push(name)?;
+            tensors.push(tensor.into_tensor(alloc)?)?;
+        }
+        Ok(Job {
+            names: Names::from_vec(names),
+            tensors: Tensors::from_list(tensors),
+            stmts,
+            shows,
+        })
     }
 }
 
 impl Lookup for Draft {
-    ghost use Rattle.dt_job.specs.Drafts.{known_of};
+    ghost use Rattle.dt_job.specs.Contents.{known_of};
 
     ghost tensors = { λ d. known_of d.tensors };
 
@@ -227,7 +199,7 @@ impl Lookup for Draft {
     }
 
     fn shape(&self, tensor: u32) -> Shape {
-        self.tensor(tensor).whole.shape()
+        self.tensor(tensor).shape()
     }
 
     fn dense(&self, _tensor: u32) -> bool {

@@ -1,14 +1,16 @@
 //! A whole job.
 
-use crate::draft::Declareds;
-use dt_base::Numbers;
+use crate::outputs::Shows;
+use dt_base::Names;
 use dt_model::Stmts;
+use dt_tensor::Tensors;
 
-/// A job that was read: the tensors as they are given, the statements, and the numbers of the tensors to print,
-/// each in the order of the text.
+/// A job that was read: the tensors' names, the tensors as they are given, the statements and the outputs, each in the
+/// order of the text.
 #[derive(Debug, Drop)]
 pub struct Job {
-    pub tensors: Declareds,
+    pub names: Names,
+    pub tensors: Tensors,
     pub stmts: Stmts,
-    pub shows: Numbers,
+    pub shows: Shows,
 }

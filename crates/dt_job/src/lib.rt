@@ -1,16 +1,20 @@
 //! A job from its text: the lines, from first to last, and the first one that has a cause.
 #![tactic(auto)]
 
+mod declaration;
 mod draft;
+mod fills;
 mod job;
+mod keys;
 mod lines;
 mod numerals;
-mod places;
+mod outputs;
+mod phases;
 mod reading;
 mod shapes;
 #[cfg(test)]
 mod tests;
 
-pub use draft::{Declared, Declareds, Due};
 pub use job::Job;
+pub use outputs::{Show, Shows};
 pub use reading::{JobEnd, read_job};

@@ -1,62 +1,33 @@
 //! Lines, one kind after another.
 
-ghost use Rattle.std.specs.Prelude.{◌≡◌, ◌≤◌, ◌<◌, ◌^◌, All, OnErr, length, map, slice_range, ◌-◌};
+ghost use Rattle.std.specs.Prelude.{◌≡◌, ◌≤◌, ◌<◌, ◌^◌, ◌-◌, ◌&&◌, All, IfOk, length, map, slice_range};
+ghost use Rattle.std.specs.Bool.{OnTrue};
+ghost use Rattle.std.specs.List.{list_all};
+ghost use Rattle.dt_text.specs.Names.{is_name};
+ghost use Rattle.dt_text.specs.Numbers.{is_numeral};
 ghost use Rattle.dt_text.specs.Spans.{IsToken, token_in};
 ghost use Rattle.dt_model.specs.Steps.{Gives};
-ghost use Rattle.dt_job.specs.Lines.{bytes_line, data_line, distal_line, end_line, machine_line, numbers_line, print_line, line_end_of, stmt_line, takes_data, takes_distal, takes_end, takes_machine, takes_print, takes_tensor, tensor_line, words_line};
+ghost use Rattle.dt_job.specs.Lines.{bytes_line, data_line, declared_in, distal_line, end_line, fill_line, fill_of, filled_in, line_end_of, machine_line, numbers_line, place_to_give, print_line, stmt_line, tensor_line, words_line};
 
-use crate::draft::{Declared, Draft, Due};
-use crate::numerals::{are_numerals, read_extents, read_numbers, read_numeral};
-use crate::shapes::small_shape;
+use crate::draft::Draft;
+use crate::fills::Fill;
+use crate::numerals::{are_all_numerals, are_numerals, read_numbers, read_numeral};
+use crate::outputs::Show;
+use crate::phases::Phase;
+use crate::shapes::{are_dense_letters, extent_words, level_words, shape_of};
 use dt_base::Name;
-use dt_index::{read_form, read_symbols, resolve};
-use dt_model::{Cause, LineEnd, Whole};
+use dt_index::parse_stmt;
+use dt_model::{Cause, LineEnd};
 use dt_text::{Line, TextEnd, Token, after_word, is_name, tokens, word};
 use std::alloc::Global;
 
-fn takes_distal(due: Due) -> bool
-    ensures { result ≡ takes_distal due }
-{
-    matches!(due, Due::Version)
-}
-
-fn takes_machine(due: Due) -> bool
-    ensures { result ≡ takes_machine due }
-{
-    matches!(due, Due::Machine)
-}
-
-fn takes_tensor(due: Due) -> bool
-    ensures { result ≡ takes_tensor due }
-{
-    matches!(due, Due::Tensor | Due::Declaration)
-}
-
-fn takes_data(due: Due) -> bool
-    ensures { result ≡ takes_data due }
-{
-    matches!(due, Due::Declaration | Due::Data)
-}
-
-fn takes_end(due: Due) -> bool
-    ensures { result ≡ takes_end due }
-{
-    matches!(due, Due::End)
-}
-
-fn takes_print(due: Due) -> bool
-    ensures { result ≡ takes_print due }
-{
-    matches!(due, Due::Output)
-}
-
 /// `distal 1`
 #[tactic(auto, unfolding(crate::specs::Lines::distal_line))]
-pub fn read_distal(draft: &mut Draft, text: &[u8], tokens: &[Token]) -> Result<(), LineEnd>
-    requires tokens { All (IsToken (length text.now)) tokens.now }
-    ensures given { Gives (λ _. draft.new) result (distal_line draft.old (map (token_in text.now) tokens.now)) }
+fn read_distal(draft: &mut Draft, text: &[u8], tokens: &[Token]) -> Result<(), LineEnd>
+    requires { All (IsToken (length text.now)) tokens.now }
+    ensures { Gives (λ _. draft.new) result (distal_line draft.old (map (token_in text.now) tokens.now)) }
 {
-    if !takes_distal(draft.due()) {
+    if !draft.phase().takes_distal() {
         return Err(LineEnd::Refused(Cause::OutOfPlace));
     }
     match tokens {
@@ -64,7 +35,7 @@ pub fn read_distal(draft: &mut Draft, text: &[u8], tokens: &[Token]) -> Result<(
             if read_numeral(word(text, *version))? != 1 {
                 return Err(LineEnd::Refused(Cause::Version));
             }
-            draft.expect(Due::Machine);
+            draft.enter(Phase::Machine);
             Ok(())
         }
         _ => Err(LineEnd::Refused(Cause::Syntax)),
@@ -73,11 +44,11 @@ pub fn read_distal(draft: &mut Draft, text: &[u8], tokens: &[Token]) -> Result<(
 
 /// `machine 1`
 #[tactic(auto, unfolding(crate::specs::Lines::machine_line))]
-pub fn read_machine(draft: &mut Draft, text: &[u8], tokens: &[Token]) -> Result<(), LineEnd>
-    requires tokens { All (IsToken (length text.now)) tokens.now }
-    ensures given { Gives (λ _. draft.new) result (machine_line draft.old (map (token_in text.now) tokens.now)) }
+fn read_machine(draft: &mut Draft, text: &[u8], tokens: &[Token]) -> Result<(), LineEnd>
+    requires { All (IsToken (length text.now)) tokens.now }
+    ensures { Gives (λ _. draft.new) result (machine_line draft.old (map (token_in text.now) tokens.now)) }
 {
-    if !takes_machine(draft.due()) {
+    if !draft.phase().takes_machine() {
         return Err(LineEnd::Refused(Cause::OutOfPlace));
     }
     match tokens {
@@ -85,124 +56,114 @@ pub fn read_machine(draft: &mut Draft, text: &[u8], tokens: &[Token]) -> Result<
             if read_numeral(word(text, *nodes))? != 1 {
                 return Err(LineEnd::Refused(Cause::Syntax));
             }
-            draft.expect(Due::Tensor);
+            draft.enter(Phase::Declarations);
             Ok(())
         }
         _ => Err(LineEnd::Refused(Cause::Syntax)),
     }
 }
 
-/// `end`
-#[tactic(auto, unfolding(crate::specs::Lines::end_line))]
-pub fn read_end(draft: &mut Draft, text: &[u8], tokens: &[Token]) -> Result<(), LineEnd>
-    ensures given { Gives (λ _. draft.new) result (end_line draft.old (map (token_in text.now) tokens.now)) }
-{
-    if !takes_end(draft.due()) {
-        return Err(LineEnd::Refused(Cause::OutOfPlace));
-    }
-    match tokens {
-        [] => {
-            draft.expect(Due::Output);
-            Ok(())
-        }
-        _ => Err(LineEnd::Refused(Cause::Syntax)),
-    }
-}
-
-/// `print NAME`
-#[tactic(auto, unfolding(crate::specs::Lines::print_line))]
-pub fn read_print(draft: &mut Draft, text: &[u8], tokens: &[Token]) -> Result<(), LineEnd>
-    requires tokens { All (IsToken (length text.now)) tokens.now }
-    ensures given { Gives (λ _. draft.new) result (print_line draft.old (map (token_in text.now) tokens.now)) }
-{
-    if !takes_print(draft.due()) {
-        return Err(LineEnd::Refused(Cause::OutOfPlace));
-    }
-    match tokens {
-        [name] => {
-            let name = word(text, *name);
-            if !is_name(name) {
-                return Err(LineEnd::Refused(Cause::Syntax));
-            }
-            let Some(at) = draft.place(name) else {
-                return Err(LineEnd::Refused(Cause::UnknownTensor(Name::from_slice(name))));
-            };
-            draft.show(at)?;
-            Ok(())
-        }
-        _ => Err(LineEnd::Refused(Cause::Syntax)),
-    }
-}
-
-/// `stmt TEXT`
-#[tactic(auto, unfolding(crate::specs::Lines::stmt_line))]
-pub fn read_stmt(alloc: Global, draft: &mut Draft, text: &[u8]) -> Result<(), LineEnd>
-    ensures given { Gives (λ _. draft.new) result (stmt_line draft.old text.now) }
-{
-    if !takes_data(draft.due()) {
-        return Err(LineEnd::Refused(Cause::OutOfPlace));
-    }
-    let symbols = read_symbols(alloc, text)?;
-    let form = read_form(alloc, symbols.as_slice())?;
-    let (stmt, _) = resolve(alloc, &form, draft)?;
-    draft.state(stmt)?;
-    Ok(())
-}
-
-/// `tensor NAME SHAPE`, with one or two extents from 1 to 16
+/// `tensor NAME SHAPE` or `tensor NAME SHAPE FORMAT`, with dense levels
 #[tactic(auto, unfolding(crate::specs::Lines::tensor_line))]
-pub fn read_tensor(
+fn read_tensor(
     alloc: Global,
     draft: &mut Draft,
     text: &[u8],
     tokens: &[Token],
 ) -> Result<(), LineEnd>
+    requires fits { length text.now < 2 ^ 32 - 1 }
     requires tokens { All (IsToken (length text.now)) tokens.now }
-    ensures given { Gives (λ _. draft.new) result (tensor_line draft.old (map (token_in text.now) tokens.now)) }
+    ensures { Gives (λ _. draft.new) result (tensor_line draft.old (map (token_in text.now) tokens.now)) }
 {
-    if !takes_tensor(draft.due()) {
+    if !draft.phase().takes_declaration() {
         return Err(LineEnd::Refused(Cause::OutOfPlace));
     }
     match tokens {
         [name, shape] => {
             let name = word(text, *name);
-            if !is_name(name) {
+            let shape = word(text, *shape);
+            let words = extent_words(alloc, shape)?;
+            if !names_extents(name, shape, words.as_slice()) {
                 return Err(LineEnd::Refused(Cause::Syntax));
             }
-            let extents = read_extents(alloc, word(text, *shape))?;
-            if draft.place(name).is_some() {
-                return Err(LineEnd::Refused(Cause::NameTaken(Name::from_slice(name))));
+            let extents = read_numbers(alloc, shape, words.as_slice())?;
+            declare(draft, name, extents.as_slice(), extents.len())
+        }
+        [name, shape, format] => {
+            let name = word(text, *name);
+            let shape = word(text, *shape);
+            let format = word(text, *format);
+            let words = extent_words(alloc, shape)?;
+            let letters = level_words(alloc, format)?;
+            if !(names_extents(name, shape, words.as_slice())
+                && are_dense_letters(format, letters.as_slice()))
+            {
+                return Err(LineEnd::Refused(Cause::Syntax));
             }
-            if draft.count() >= 8 {
-                return Err(LineEnd::Refused(Cause::TooManyTensors));
-            }
-            let Some(shape) = small_shape(extents.as_slice()) else {
-                return Err(LineEnd::Refused(Cause::BadShape));
-            };
-            let whole = Whole::zero(alloc, shape)?;
-            draft.declare(Declared {
-                name: Name::from_slice(name),
-                whole,
-                given: false,
-            })?;
-            Ok(())
+            let extents = read_numbers(alloc, shape, words.as_slice())?;
+            declare(draft, name, extents.as_slice(), letters.as_slice().len())
         }
         _ => Err(LineEnd::Refused(Cause::Syntax)),
     }
 }
 
+/// Whether there is a name, and each word of a shape is digits.
+fn names_extents(name: &[u8], shape: &[u8], words: &[Token]) -> bool
+    requires { All (IsToken (length shape.now)) words.now }
+    ensures value { result ≡ is_name name.now && list_all is_numeral (map (token_in shape.now) words.now) }
+    ensures few { OnTrue result (length name.now ≤ 16) }
+{
+    is_name(name) && are_all_numerals(shape, words)
+}
+
+/// A tensor with this name, these extents, and this many level letters.
+#[tactic(auto, unfolding(crate::specs::Lines::declared_in))]
+fn declare(draft: &mut Draft, name: &[u8], extents: &[u64], letters: usize) -> Result<(), LineEnd>
+    requires { length name.now ≤ 16 }
+    ensures { Gives (λ _. draft.new) result (declared_in draft.old name.now extents.now letters) }
+{
+    if draft.place(name).is_some() {
+        return Err(LineEnd::Refused(Cause::NameTaken(Name::from_slice(name))));
+    }
+    if draft.tensor_count() >= 32 {
+        return Err(LineEnd::Refused(Cause::TooManyTensors));
+    }
+    let Some(shape) = shape_of(extents) else {
+        return Err(LineEnd::Refused(Cause::BadShape));
+    };
+    if letters != extents.len() {
+        return Err(LineEnd::Refused(Cause::BadFormat));
+    }
+    if shape.count() > 1_048_576 {
+        return Err(LineEnd::Refused(Cause::TooManyStored));
+    }
+    draft.declare(Name::from_slice(name), shape)?;
+    Ok(())
+}
+
+/// The number of the tensor with this name, which no line has given numbers yet.
+#[tactic(auto, unfolding(crate::specs::Lines::place_to_give))]
+fn place_to_give(draft: &Draft, name: &[u8]) -> Result<u32, LineEnd>
+    requires { length name.now ≤ 16 }
+    ensures given { Gives (λ k. k) result (place_to_give draft.now name.now) }
+    ensures within { IfOk result (λ k. k < length draft.now.tensors) }
+{
+    let Some(at) = draft.place(name) else {
+        return Err(LineEnd::Refused(Cause::UnknownTensor(Name::from_slice(name))));
+    };
+    if draft.is_given(at) {
+        return Err(LineEnd::Refused(Cause::Twice(Name::from_slice(name))));
+    }
+    Ok(at)
+}
+
 /// `data NAME V V`: a tensor's numbers, in row-major order
 #[tactic(auto, unfolding(crate::specs::Lines::data_line))]
-pub fn read_data(
-    alloc: Global,
-    draft: &mut Draft,
-    text: &[u8],
-    tokens: &[Token],
-) -> Result<(), LineEnd>
-    requires tokens { All (IsToken (length text.now)) tokens.now }
-    ensures given { Gives (λ _. draft.new) result (data_line draft.old (map (token_in text.now) tokens.now)) }
+fn read_data(alloc: Global, draft: &mut Draft, text: &[u8], tokens: &[Token]) -> Result<(), LineEnd>
+    requires { All (IsToken (length text.now)) tokens.now }
+    ensures { Gives (λ _. draft.new) result (data_line draft.old (map (token_in text.now) tokens.now)) }
 {
-    if !takes_data(draft.due()) {
+    if !draft.phase().takes_declaration() {
         return Err(LineEnd::Refused(Cause::OutOfPlace));
     }
     match tokens {
@@ -222,32 +183,144 @@ pub fn read_data(
 #[tactic(auto, unfolding(crate::specs::Lines::numbers_line))]
 fn give_numbers(draft: &mut Draft, name: &[u8], numbers: Vec<u64>) -> Result<(), LineEnd>
     requires { length name.now ≤ 16 }
-    ensures given { Gives (λ _. draft.new) result (numbers_line draft.old name.now numbers.items) }
+    ensures { Gives (λ _. draft.new) result (numbers_line draft.old name.now numbers.items) }
 {
-    let Some(at) = draft.place(name) else {
-        return Err(LineEnd::Refused(Cause::UnknownTensor(Name::from_slice(name))));
-    };
-    if draft.is_given(at) {
-        return Err(LineEnd::Refused(Cause::Twice(Name::from_slice(name))));
-    }
-    if numbers.len() != draft.numbers(at) {
+    let at = place_to_give(draft, name)?;
+    if numbers.len() != draft.position_count(at) as usize {
         return Err(LineEnd::Refused(Cause::WrongCount));
     }
-    draft.fill(at, numbers);
+    draft.give(at, numbers);
     Ok(())
+}
+
+/// `fill NAME ramp` or `fill NAME seed N`
+#[tactic(auto, unfolding(crate::specs::Lines::fill_line))]
+fn read_fill(alloc: Global, draft: &mut Draft, text: &[u8], tokens: &[Token]) -> Result<(), LineEnd>
+    requires { All (IsToken (length text.now)) tokens.now }
+    ensures { Gives (λ _. draft.new) result (fill_line draft.old (map (token_in text.now) tokens.now)) }
+{
+    if !draft.phase().takes_declaration() {
+        return Err(LineEnd::Refused(Cause::OutOfPlace));
+    }
+    match tokens {
+        [] => Err(LineEnd::Refused(Cause::Syntax)),
+        [name, kind @ ..] => {
+            let name = word(text, *name);
+            if !is_name(name) {
+                return Err(LineEnd::Refused(Cause::Syntax));
+            }
+            let fill = read_kind(text, kind)?;
+            give_fill(alloc, draft, name, fill)
+        }
+    }
+}
+
+/// `ramp` or `seed N`
+#[tactic(auto, unfolding(crate::specs::Lines::fill_of))]
+fn read_kind(text: &[u8], tokens: &[Token]) -> Result<Fill, LineEnd>
+    requires { All (IsToken (length text.now)) tokens.now }
+    ensures { Gives (λ f. f) result (fill_of (map (token_in text.now) tokens.now)) }
+{
+    match tokens {
+        [kind] => {
+            if word(text, *kind) != b"ramp".as_slice() {
+                return Err(LineEnd::Refused(Cause::Syntax));
+            }
+            Ok(Fill::Ramp)
+        }
+        [kind, seed] => {
+            if word(text, *kind) != b"seed".as_slice() {
+                return Err(LineEnd::Refused(Cause::Syntax));
+            }
+            let seed = read_numeral(word(text, *seed))?;
+            Ok(Fill::Seed(seed))
+        }
+        _ => Err(LineEnd::Refused(Cause::Syntax)),
+    }
+}
+
+/// What a fill gives for the tensor with this name.
+#[tactic(auto, unfolding(crate::specs::Lines::filled_in))]
+fn give_fill(alloc: Global, draft: &mut Draft, name: &[u8], fill: Fill) -> Result<(), LineEnd>
+    requires { length name.now ≤ 16 }
+    ensures { Gives (λ _. draft.new) result (filled_in draft.old name.now fill) }
+{
+    let at = place_to_give(draft, name)?;
+    let numbers = fill.values(alloc, draft.position_count(at))?;
+    draft.give(at, numbers);
+    Ok(())
+}
+
+/// `stmt TEXT`
+#[tactic(auto, unfolding(crate::specs::Lines::stmt_line))]
+fn read_stmt(alloc: Global, draft: &mut Draft, text: &[u8]) -> Result<(), LineEnd>
+    ensures { Gives (λ _. draft.new) result (stmt_line draft.old text.now) }
+{
+    if !draft.phase().takes_stmt() {
+        return Err(LineEnd::Refused(Cause::OutOfPlace));
+    }
+    let (stmt, _) = parse_stmt(alloc, text, draft)?;
+    if draft.stmt_count() >= 32 {
+        return Err(LineEnd::Refused(Cause::TooManyStatements));
+    }
+    draft.state(stmt)?;
+    Ok(())
+}
+
+/// `end`
+#[tactic(auto, unfolding(crate::specs::Lines::end_line))]
+fn read_end(draft: &mut Draft, text: &[u8], tokens: &[Token]) -> Result<(), LineEnd>
+    ensures { Gives (λ _. draft.new) result (end_line draft.old (map (token_in text.now) tokens.now)) }
+{
+    if !draft.phase().takes_end() {
+        return Err(LineEnd::Refused(Cause::OutOfPlace));
+    }
+    match tokens {
+        [] => {
+            draft.enter(Phase::Statements);
+            Ok(())
+        }
+        _ => Err(LineEnd::Refused(Cause::Syntax)),
+    }
+}
+
+/// `print NAME`
+#[tactic(auto, unfolding(crate::specs::Lines::print_line))]
+fn read_print(draft: &mut Draft, text: &[u8], tokens: &[Token]) -> Result<(), LineEnd>
+    requires { All (IsToken (length text.now)) tokens.now }
+    ensures { Gives (λ _. draft.new) result (print_line draft.old (map (token_in text.now) tokens.now)) }
+{
+    if !draft.phase().takes_output() {
+        return Err(LineEnd::Refused(Cause::OutOfPlace));
+    }
+    match tokens {
+        [name] => {
+            let name = word(text, *name);
+            if !is_name(name) {
+                return Err(LineEnd::Refused(Cause::Syntax));
+            }
+            let Some(at) = draft.place(name) else {
+                return Err(LineEnd::Refused(Cause::UnknownTensor(Name::from_slice(name))));
+            };
+            draft.show(Show::Print(at))?;
+            Ok(())
+        }
+        _ => Err(LineEnd::Refused(Cause::Syntax)),
+    }
 }
 
 /// A line by its first word; `rest` is what stands behind that word.
 #[tactic(auto, unfolding(crate::specs::Lines::words_line))]
-pub fn read_words(
+fn read_words(
     alloc: Global,
     draft: &mut Draft,
     text: &[u8],
     rest: &[u8],
     tokens: &[Token],
 ) -> Result<(), LineEnd>
+    requires fits { length text.now < 2 ^ 32 - 1 }
     requires tokens { All (IsToken (length text.now)) tokens.now }
-    ensures given { Gives (λ _. draft.new) result (words_line draft.old rest.now (map (token_in text.now) tokens.now)) }
+    ensures { Gives (λ _. draft.new) result (words_line draft.old rest.now (map (token_in text.now) tokens.now)) }
 {
     match tokens {
         [] => Ok(()),
@@ -261,6 +334,8 @@ pub fn read_words(
                 read_tensor(alloc, draft, text, behind)
             } else if first == b"data".as_slice() {
                 read_data(alloc, draft, text, behind)
+            } else if first == b"fill".as_slice() {
+                read_fill(alloc, draft, text, behind)
             } else if first == b"stmt".as_slice() {
                 read_stmt(alloc, draft, rest)
             } else if first == b"end".as_slice() {
@@ -290,7 +365,7 @@ pub fn read_line(alloc: Global, draft: &mut Draft, text: &[u8], line: Line) -> R
     requires fits { length text.now < 2 ^ 32 - 1 }
     requires order { line.from ≤ line.to }
     requires within { line.to ≤ length text.now }
-    ensures given { Gives (λ _. draft.new) result (bytes_line draft.old (slice_range text.now line.from line.to)) }
+    ensures { Gives (λ _. draft.new) result (bytes_line draft.old (slice_range text.now line.from line.to)) }
 {
     let tokens = match tokens(alloc, text, line) {
         Ok(tokens) => tokens,

@@ -2,10 +2,9 @@
 
 ghost use Rattle.std.specs.Prelude.{◌≡◌, ◌<◌, ◌-◌, ◌^◌, IfOk, [], length};
 ghost use Rattle.dt_job.specs.Jobs.{IsJob};
-ghost use Rattle.dt_job.specs.Lines.{is_whole};
 ghost use Rattle.dt_job.specs.Read.{IsRead, at_line, job_of, lines_from};
 
-use crate::draft::{Draft, Due};
+use crate::draft::Draft;
 use crate::job::Job;
 use crate::lines::read_line;
 use dt_model::{Cause, LineEnd};
@@ -30,7 +29,7 @@ pub fn read_job(alloc: Global, text: &[u8]) -> Result<Job, JobEnd>
     let mut number = 1u32;
     loop {
         let line = match next_line(text, at, number) {
-            None => return finish(draft, number),
+            None => return finish(alloc, draft, number),
             Some(line) => line,
         };
         match read_line(alloc, &mut draft, text, line) {
@@ -44,21 +43,17 @@ pub fn read_job(alloc: Global, text: &[u8]) -> Result<Job, JobEnd>
 
 /// The job, where its lines are all there.
 #[tactic(auto, unfolding(crate::specs::Read::lines_from))]
-fn finish(draft: Draft, number: u32) -> Result<Job, JobEnd>
+fn finish(alloc: Global, draft: Draft, number: u32) -> Result<Job, JobEnd>
     ensures job { IsRead result (lines_from number draft []) }
     ensures lawful { IfOk result IsJob }
 {
-    if is_whole(draft.due()) {
-        Ok(draft.into_job())
-    } else {
-        Err(JobEnd::Refused(number, Cause::Unfinished))
+    if !draft.phase().is_whole() {
+        return Err(JobEnd::Refused(number, Cause::Unfinished));
     }
-}
-
-fn is_whole(due: Due) -> bool
-    ensures { result ≡ is_whole due }
-{
-    matches!(due, Due::Nothing)
+    match draft.into_job(alloc) {
+        Ok(job) => Ok(job),
+        Err(_no_memory) => Err(JobEnd::NoMemory),
+    }
 }
 
 /// The end of the job at the line that has this end.

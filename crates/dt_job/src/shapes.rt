@@ -1,16 +1,93 @@
-//! Shapes of the first form of jobs.
+//! Shapes and formats that stand as words of a line.
 
-ghost use Rattle.std.specs.Prelude.{◌≡◌, ◌≤◌, length};
-ghost use Rattle.std.specs.List.{list_all, AllPass};
-ghost use Rattle.dt_job.specs.Lines.{is_small, small_shape_of};
+ghost use Rattle.std.specs.Prelude.{◌≡◌, ◌≤◌, ◌<◌, ◌^◌, All, IfOk, length, map};
+ghost use Rattle.std.specs.List.{list_all, position_or_len};
+ghost use Rattle.dt_text.specs.Spans.{IsToken, token_in};
+ghost use Rattle.dt_model.specs.Shape.{is_extent, shape_of_extents};
+ghost use Rattle.dt_job.specs.Shapes.{extent_words, is_byte, is_dense_letter, is_scalar, level_words, pieces_of};
 
+use dt_base::NoMemory;
 use dt_model::Shape;
+use dt_text::{Token, Tokens, word};
+use std::alloc::Global;
 
-/// The shape of these extents, where each is from 1 to 16.
-pub fn small_shape(extents: &[u64]) -> Option<Shape>
-    ensures { result ≡ small_shape_of extents.now }
+/// The words of a shape: none where it is `scalar`, and else those that `x` joins.
+pub fn extent_words(alloc: Global, shape: &[u8]) -> Result<Tokens, NoMemory>
+    requires { length shape.now < 2 ^ 32 }
+    ensures words { IfOk result (λ ts. map (token_in shape.now) ts ≡ extent_words shape.now) }
+    ensures tokens { IfOk result (λ ts. All (IsToken (length shape.now)) ts) }
 {
-    if !are_small(extents) || extents.len() > 4 {
+    if is_scalar(shape) {
+        return Ok(Tokens::new(alloc));
+    }
+    pieces(alloc, shape, b'x')
+}
+
+fn is_scalar(shape: &[u8]) -> bool
+    ensures { result ≡ is_scalar shape.now }
+{
+    shape == b"scalar".as_slice()
+}
+
+/// The level letters of a format, which commas join.
+pub fn level_words(alloc: Global, format: &[u8]) -> Result<Tokens, NoMemory>
+    requires { length format.now < 2 ^ 32 }
+    ensures words { IfOk result (λ ts. map (token_in format.now) ts ≡ level_words format.now) }
+    ensures tokens { IfOk result (λ ts. All (IsToken (length format.now)) ts) }
+{
+    pieces(alloc, format, b',')
+}
+
+/// Whether each word is the letter of a dense level.
+pub fn are_dense_letters(text: &[u8], tokens: &[Token]) -> bool
+    requires { All (IsToken (length text.now)) tokens.now }
+    ensures { result ≡ list_all is_dense_letter (map (token_in text.now) tokens.now) }
+{
+    for token in tokens {
+        if !is_dense_letter(word(text, *token)) {
+            return false;
+        }
+    }
+    true
+}
+
+fn is_dense_letter(letter: &[u8]) -> bool
+    ensures { result ≡ is_dense_letter letter.now }
+{
+    letter == b"d".as_slice()
+}
+
+/// The pieces of a word between the bytes that separate them.
+fn pieces(alloc: Global, word: &[u8], separator: u8) -> Result<Tokens, NoMemory>
+    requires { length word.now < 2 ^ 32 }
+    ensures words { IfOk result (λ ts. map (token_in word.now) ts ≡ pieces_of separator word.now) }
+    ensures tokens { IfOk result (λ ts. All (IsToken (length word.now)) ts) }
+{
+    let mut items = Vec::new(alloc);
+    let mut from = 0u32;
+    loop {
+        let to = from + piece_len(&word[from as usize..], separator) as u32;
+        items.push(Token { from, to })?;
+        if to as usize == word.len() {
+            return Ok(Tokens::from_vec(items));
+        }
+        from = to + 1;
+    }
+}
+
+/// How many bytes stand before the first separator.
+fn piece_len(word: &[u8], separator: u8) -> usize
+    ensures place { result ≡ position_or_len (is_byte separator) word.now }
+    ensures within { result ≤ length word.now }
+{
+    word.iter().take_while(|b| **b != separator).count()
+}
+
+/// The shape with these extents, where they are some of a tensor.
+pub fn shape_of(extents: &[u64]) -> Option<Shape>
+    ensures { result ≡ shape_of_extents extents.now }
+{
+    if extents.len() > 4 || !are_small(extents) {
         return None;
     }
     let mut all = [0u32; 4];
@@ -20,8 +97,9 @@ pub fn small_shape(extents: &[u64]) -> Option<Shape>
     Shape::from_extents(&all[..extents.len()])
 }
 
+/// Whether each extent is one of a tensor.
 fn are_small(extents: &[u64]) -> bool
-    ensures { result ≡ list_all is_small extents.now }
+    ensures { result ≡ list_all is_extent extents.now }
 {
-    extents.iter().all(|n| 1 <= *n && *n <= 16)
+    extents.iter().all(|n| 1 <= *n && *n <= 4096)
 }

@@ -1,6 +1,6 @@
-//! A product of two matrices, and texts that are no jobs, each with its first line that has a cause.
+//! Jobs that are read, and texts that are no jobs, each with its first line that has a cause.
 
-use crate::{JobEnd, read_job};
+use crate::{JobEnd, Show, read_job};
 use dt_base::{Name, NoMemory};
 use dt_model::Cause;
 use std::alloc::Global;
@@ -38,6 +38,7 @@ fn text_with(alloc: Global, from: usize, to: usize, lines: &[u8]) -> Result<Vec<
 /// A cause, with the letter or the place that it names.
 #[derive(Clone, Copy, Debug, PartialEq, Eq)]
 enum Fault {
+    LineTooLong,
     BadByte(u32),
     UnknownWord,
     OutOfPlace,
@@ -45,17 +46,23 @@ enum Fault {
     BadNumber,
     Unfinished,
     Version,
+    NameTaken(u8),
     TooManyTensors,
     BadShape,
+    BadFormat,
+    TooManyStored,
     UnknownTensor(u8),
     Twice(u8),
     WrongCount,
+    TooManyStatements,
     ExtentClash(u8),
+    UnevenReduction(u8),
     Other,
 }
 
 fn named(cause: &Cause) -> Fault {
     match cause {
+        Cause::LineTooLong => Fault::LineTooLong,
         Cause::BadByte(place) => Fault::BadByte(*place),
         Cause::UnknownWord => Fault::UnknownWord,
         Cause::OutOfPlace => Fault::OutOfPlace,
@@ -63,12 +70,17 @@ fn named(cause: &Cause) -> Fault {
         Cause::BadNumber => Fault::BadNumber,
         Cause::Unfinished => Fault::Unfinished,
         Cause::Version => Fault::Version,
+        Cause::NameTaken(name) => Fault::NameTaken(letter(name)),
         Cause::TooManyTensors => Fault::TooManyTensors,
         Cause::BadShape => Fault::BadShape,
+        Cause::BadFormat => Fault::BadFormat,
+        Cause::TooManyStored => Fault::TooManyStored,
         Cause::UnknownTensor(name) => Fault::UnknownTensor(letter(name)),
         Cause::Twice(name) => Fault::Twice(letter(name)),
         Cause::WrongCount => Fault::WrongCount,
+        Cause::TooManyStatements => Fault::TooManyStatements,
         Cause::ExtentClash(name) => Fault::ExtentClash(letter(name)),
+        Cause::UnevenReduction(name) => Fault::UnevenReduction(letter(name)),
         _ => Fault::Other,
     }
 }
@@ -96,68 +108,120 @@ fn a_product_is_read(rt: HostRuntime) -> Result<(), Fail> {
         let text = text_with(rt.alloc(), 1, 1, lines)?;
         assert!(rt; text.len() < 1000);
         let job = read_job(rt.alloc(), text.as_slice())?;
-        let tensors = job.tensors.as_slice();
-        assert_eq!(rt; tensors.len(), 3);
+        assert_eq!(rt; job.names.as_slice().len(), 3);
+        assert_eq!(rt; job.tensors.len(), 3);
         let wanted = [
-            (b'A', [0, 0, 0, 0]),
-            (b'B', [1, 2, 3, 4]),
-            (b'C', [5, 6, 7, 8]),
+            (0, b'A', [0, 0, 0, 0]),
+            (1, b'B', [1, 2, 3, 4]),
+            (2, b'C', [5, 6, 7, 8]),
         ];
-        for (tensor, (name, values)) in tensors.iter().zip(wanted.iter()) {
-            assert_eq!(rt; letter(&tensor.name), *name);
-            assert_eq!(rt; tensor.whole.values(), values.as_slice());
+        for (at, name, values) in wanted {
+            assert!(rt; at < 3);
+            assert_eq!(rt; letter(&job.names.as_slice()[at as usize]), name);
+            assert_eq!(rt; job.tensors.get(at).values(), values.as_slice());
         }
-        assert_eq!(rt; job.stmts.items.len(), 1);
-        assert_eq!(rt; job.shows.items.as_slice(), [0].as_slice());
+        assert_eq!(rt; job.stmts.as_slice().len(), 1);
+        assert_eq!(rt; job.shows.as_slice(), [Show::Print(0)].as_slice());
+    }
+    Ok(())
+}
+
+#[test]
+fn tensors_have_their_numbers(rt: HostRuntime) -> Result<(), Fail> {
+    let cases: [(&[u8], &[u64]); 8] = [
+        (
+            b"tensor a 3\nfill a seed 7\n",
+            &[1_059_165_278, 2_052_263_231, 1_946_856_753],
+        ),
+        (
+            b"tensor a 2 d\nfill a seed 18446744073709551615\n",
+            &[1_574_552_488, 1_490_332_343],
+        ),
+        (b"tensor a 2x3\nfill a ramp\n", &[1, 2, 3, 4, 5, 6]),
+        (
+            b"tensor a 2x01x2 d,d,d\ndata a 1 18446744073709551615 03 0\n",
+            &[1, u64::MAX, 3, 0],
+        ),
+        (b"tensor a scalar\n", &[0]),
+        (b"tensor a scalar\ndata a 9\n", &[9]),
+        (b"tensor a scalar\nfill a seed 0\n", &[167_951_807]),
+        (b"tensor a 1x2x1x2 d,d,d,d\n", &[0, 0, 0, 0]),
+    ];
+    for (lines, values) in cases {
+        let text = text_with(rt.alloc(), 3, 10, lines)?;
+        assert!(rt; text.len() < 1000);
+        let job = read_job(rt.alloc(), text.as_slice())?;
+        assert_eq!(rt; job.tensors.len(), 1);
+        assert_eq!(rt; job.tensors.get(0).values(), values);
+    }
+    Ok(())
+}
+
+#[test]
+fn statements_and_outputs_may_be_any_number(rt: HostRuntime) -> Result<(), Fail> {
+    let cases: [(usize, usize, &[u8], usize, usize); 4] = [
+        (2, 10, b"machine 01\n", 0, 0),
+        (8, 10, b"print A\n# and again\nprint A\nprint C\n", 0, 3),
+        (
+            9,
+            10,
+            b"end\nstmt B(i,j) += 2 * A(i,j)\nend\nstmt C(i,j) = -A(j,i)\nend\n",
+            3,
+            0,
+        ),
+        (10, 10, b"print C\n", 1, 1),
+    ];
+    for (from, to, lines, stmts, shows) in cases {
+        let text = text_with(rt.alloc(), from, to, lines)?;
+        assert!(rt; text.len() < 1000);
+        let job = read_job(rt.alloc(), text.as_slice())?;
+        assert_eq!(rt; job.stmts.as_slice().len(), stmts);
+        assert_eq!(rt; job.shows.len(), shows);
     }
     Ok(())
 }
 
 #[test]
 fn the_first_line_with_a_cause_is_told(rt: HostRuntime) -> Result<(), Fail> {
-    let cases: [(usize, usize, &[u8], u32, Fault); 19] = [
+    let cases: [(usize, usize, &[u8], u32, Fault); 27] = [
         (1, 10, b"", 1, Fault::Unfinished),
+        (2, 10, b"", 2, Fault::Unfinished),
         (9, 10, b"", 9, Fault::Unfinished),
+        (1, 1, b"distal 2\n", 1, Fault::Version),
+        (1, 1, b"\n# two\n\r\n \t\ndistal 2\r\n", 5, Fault::Version),
+        (1, 1, b"distal x\n", 1, Fault::Syntax),
+        (1, 1, b"distal 18446744073709551616\n", 1, Fault::BadNumber),
+        (1, 1, b"machine 1\n", 1, Fault::OutOfPlace),
+        (2, 2, b"distal 1\n", 2, Fault::OutOfPlace),
+        (2, 2, b"tensor D 2\n", 2, Fault::OutOfPlace),
+        (2, 2, b"machine 2\n", 2, Fault::Syntax),
+        (2, 2, b"machine \x80 1\n", 2, Fault::BadByte(9)),
+        (3, 3, b"machine 1\n", 3, Fault::OutOfPlace),
+        (3, 3, b"place A xy -> xy\n", 3, Fault::UnknownWord),
+        (8, 8, b"end\n", 8, Fault::OutOfPlace),
+        (9, 9, b"print A\n", 9, Fault::OutOfPlace),
+        (9, 9, b"stmt A(i,j) = B(i,j)\n", 9, Fault::OutOfPlace),
+        (9, 9, b"split i io ii 2\n", 9, Fault::UnknownWord),
+        (9, 9, b"end 1\n", 9, Fault::Syntax),
+        (9, 9, b"end\nend\n", 10, Fault::OutOfPlace),
+        (9, 9, b"end\ntensor D 2\n", 10, Fault::OutOfPlace),
+        (10, 10, b"print\n", 10, Fault::Syntax),
+        (10, 10, b"print Z\n", 10, Fault::UnknownTensor(b'Z')),
+        (10, 10, b"print A\nstmt A(i,j) = 1\n", 11, Fault::OutOfPlace),
         (
             8,
             8,
-            b"stmt A(i,j) = B(i,k) * D(k,j)\n",
+            b"stmt A(i,j) = D(i,j)\n",
             8,
             Fault::UnknownTensor(b'D'),
         ),
         (3, 3, b"tensor A 3x2\n", 8, Fault::ExtentClash(b'i')),
-        (9, 9, b"split i io ii 2\n", 9, Fault::UnknownWord),
-        (1, 1, b"distal 2\n", 1, Fault::Version),
-        (1, 1, b"\n# two\n\r\n \t\ndistal 2\r\n", 5, Fault::Version),
-        (2, 2, b"distal 1\n", 2, Fault::OutOfPlace),
-        (3, 3, b"tensor A 17\n", 3, Fault::BadShape),
         (
+            3,
+            10,
+            b"tensor A 2\ntensor B 2x2\ntensor c 2\nstmt A(i) = B(i,k) + c(i)\n",
             6,
-            6,
-            b"tensor D 1\ntensor E 1\ntensor F 1\ntensor G 1\ntensor H 1\ntensor I 1\n",
-            11,
-            Fault::TooManyTensors,
-        ),
-        (6, 6, b"data B 1 2 3\n", 6, Fault::WrongCount),
-        (6, 6, b"data B 1 2 3 x\n", 6, Fault::Syntax),
-        (
-            6,
-            6,
-            b"data B 1 2 3 18446744073709551616\n",
-            6,
-            Fault::BadNumber,
-        ),
-        (6, 6, b"data Z 1\n", 6, Fault::UnknownTensor(b'Z')),
-        (7, 7, b"data B 5 6 7 8\n", 7, Fault::Twice(b'B')),
-        (10, 10, b"print Z\n", 10, Fault::UnknownTensor(b'Z')),
-        (10, 10, b"print A\nprint A\n", 11, Fault::OutOfPlace),
-        (2, 2, b"machine \x80 1\n", 2, Fault::BadByte(9)),
-        (
-            8,
-            8,
-            b"stmt A(i,j) = B(i,k) * D(k,j)\nsplit\n",
-            8,
-            Fault::UnknownTensor(b'D'),
+            Fault::UnevenReduction(b'k'),
         ),
     ];
     for (from, to, lines, line, cause) in cases {
@@ -165,6 +229,111 @@ fn the_first_line_with_a_cause_is_told(rt: HostRuntime) -> Result<(), Fail> {
         assert!(rt; text.len() < 1000);
         let end = read_job(rt.alloc(), text.as_slice()).err().ok_or("a job")?;
         assert_eq!(rt; refusal(&end), Some((line, cause)));
+    }
+    Ok(())
+}
+
+#[test]
+fn declarations_are_refused(rt: HostRuntime) -> Result<(), Fail> {
+    let cases: [(&[u8], Fault); 25] = [
+        (b"tensor D\n", Fault::Syntax),
+        (b"tensor 2D 2\n", Fault::Syntax),
+        (b"tensor D 2x\n", Fault::Syntax),
+        (b"tensor D 2 c\n", Fault::Syntax),
+        (b"tensor D 2 d d\n", Fault::Syntax),
+        (b"tensor D 2x18446744073709551616\n", Fault::BadNumber),
+        (b"tensor A 0\n", Fault::NameTaken(b'A')),
+        (b"tensor D 2x0\n", Fault::BadShape),
+        (b"tensor D 4097\n", Fault::BadShape),
+        (b"tensor D 2x2x2x2x2\n", Fault::BadShape),
+        (b"tensor D 4096x4096x2 d\n", Fault::BadShape),
+        (b"tensor D 2x2 d\n", Fault::BadFormat),
+        (b"tensor D scalar d\n", Fault::BadFormat),
+        (b"tensor D 1025x1024\n", Fault::TooManyStored),
+        (b"data B\n", Fault::Syntax),
+        (b"data B 1 2 3 x\n", Fault::Syntax),
+        (b"data B 1 2 3 18446744073709551616\n", Fault::BadNumber),
+        (b"data Z 1\n", Fault::UnknownTensor(b'Z')),
+        (b"data C 1 2 3\n", Fault::WrongCount),
+        (b"data B 1\n", Fault::Twice(b'B')),
+        (b"fill C up\n", Fault::Syntax),
+        (b"fill C seed x\n", Fault::Syntax),
+        (b"fill C seed 18446744073709551616\n", Fault::BadNumber),
+        (b"fill Z ramp\n", Fault::UnknownTensor(b'Z')),
+        (b"fill B seed 1\n", Fault::Twice(b'B')),
+    ];
+    for (lines, cause) in cases {
+        let text = text_with(rt.alloc(), 7, 7, lines)?;
+        assert!(rt; text.len() < 1000);
+        let end = read_job(rt.alloc(), text.as_slice()).err().ok_or("a job")?;
+        assert_eq!(rt; refusal(&end), Some((7, cause)));
+    }
+    Ok(())
+}
+
+/// `count` lines that declare tensors whose names differ, and then these lines.
+fn tensors(alloc: Global, count: u8, lines: &[u8]) -> Result<Vec<u8>, NoMemory> {
+    let mut text = Vec::new(alloc);
+    text.extend_from_slice(b"distal 1\nmachine 1\n")?;
+    for i in 0..count {
+        text.extend_from_slice(b"tensor t")?;
+        text.push(b'a' + i / 26)?;
+        text.push(b'a' + i % 26)?;
+        text.extend_from_slice(b" 2\n")?;
+    }
+    text.extend_from_slice(lines)?;
+    Ok(text)
+}
+
+/// A job of this many statements.
+fn statements(alloc: Global, count: u8) -> Result<Vec<u8>, NoMemory> {
+    let mut text = Vec::new(alloc);
+    text.extend_from_slice(b"distal 1\nmachine 1\ntensor s scalar\n")?;
+    for _i in 0..count {
+        text.extend_from_slice(b"stmt s += 1\nend\n")?;
+    }
+    Ok(text)
+}
+
+/// A job with a comment of this many bytes.
+fn comment(alloc: Global, count: u32) -> Result<Vec<u8>, NoMemory> {
+    let mut text = Vec::new(alloc);
+    text.extend_from_slice(b"distal 1\nmachine 1\n")?;
+    for _i in 0..count {
+        text.push(b'#')?;
+    }
+    Ok(text)
+}
+
+#[test]
+fn limits_are_kept(rt: HostRuntime) -> Result<(), Fail> {
+    let cases = [
+        (tensors(rt.alloc(), 32, b"")?, None),
+        (
+            tensors(rt.alloc(), 33, b"")?,
+            Some((35, Fault::TooManyTensors)),
+        ),
+        (
+            tensors(rt.alloc(), 32, b"tensor x 0\n")?,
+            Some((35, Fault::TooManyTensors)),
+        ),
+        (statements(rt.alloc(), 32)?, None),
+        (
+            statements(rt.alloc(), 33)?,
+            Some((68, Fault::TooManyStatements)),
+        ),
+        (comment(rt.alloc(), 1_048_576)?, None),
+        (
+            comment(rt.alloc(), 1_048_577)?,
+            Some((3, Fault::LineTooLong)),
+        ),
+    ];
+    for (text, wanted) in &cases {
+        assert!(rt; text.len() < 2_000_000);
+        match read_job(rt.alloc(), text.as_slice()) {
+            Ok(_job) => assert_eq!(rt; None, *wanted),
+            Err(end) => assert_eq!(rt; refusal(&end), *wanted),
+        }
     }
     Ok(())
 }

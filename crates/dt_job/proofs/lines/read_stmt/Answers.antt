@@ -1,5 +1,13 @@
-use Rattle.dt_job.proofs.DraftFacts.{known_shapes}
+use Rattle.dt_job.specs.Contents.{known_of}
+use Rattle.dt_job.proofs.Unread.{parsed_unread}
+use Rattle.dt_job.proofs.ContentFacts.{known_shapes}
 use Rattle.dt_job.proofs.lines.read_stmt.Goals as goal
 
-pub state-requires : goal.state-requires
-state-requires c = rw (← known_shapes c.args.draft.now.tensors) c.in_ok-stmt.ensures.lawful
+pub state-requires-clause-stands : goal.state-requires-clause-stands
+state-requires-clause-stands c = record {
+  stands = rw (← known_shapes c.args.draft.now.tensors) c.in_ok-stmt.ensures.lawful;
+  used = c.in_ok-stmt.ensures.used;
+  even = c.in_ok-stmt.ensures.even;
+  small = c.in_ok-stmt.ensures.small;
+  unread = parsed_unread (known_of c.args.draft.now.tensors) c.args.text.now _ c.in_ok-stmt.ensures.given;
+}

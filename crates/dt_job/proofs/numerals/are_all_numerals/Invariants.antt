@@ -1,7 +1,7 @@
 use Rattle.std.proofs.Common.{◌≡◌, map}
 use Rattle.std.specs.List.{list_all}
 use Rattle.dt_text.specs.Spans.{token_in}
-use Rattle.dt_job.specs.Numerals.{is_numeral}
+use Rattle.dt_text.specs.Numbers.{is_numeral}
 use Rattle.dt_job.proofs.Words.{words_from}
 use Rattle.dt_job.proofs.numerals.are_all_numerals.Given as goal
 

@@ -1,7 +1,7 @@
 use Rattle.std.proofs.Common.{◌≡◌, map}
 use Rattle.dt_model.proofs.Fronts.{with_front}
 use Rattle.dt_text.specs.Spans.{token_in}
-use Rattle.dt_job.specs.Numerals.{numbers_of}
+use Rattle.dt_job.specs.Shapes.{numbers_of}
 use Rattle.dt_job.proofs.Words.{words_from}
 use Rattle.dt_job.proofs.numerals.read_numbers.Given as goal
 

@@ -1,4 +1,4 @@
-use Rattle.dt_job.proofs.DraftFacts.{all_dense}
+use Rattle.dt_job.proofs.ContentFacts.{all_dense}
 use Rattle.dt_job.proofs.draft.DraftLookup.dense.Goals as goal
 
 pub returns : goal.returns

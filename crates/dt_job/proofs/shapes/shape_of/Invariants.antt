@@ -1,5 +1,5 @@
 use Rattle.std.proofs.Common.{◌≡◌, length, take}
-use Rattle.dt_job.proofs.shapes.small_shape.Given as goal
+use Rattle.dt_job.proofs.shapes.shape_of.Given as goal
 
 abbrev pub invariant-loop-i : goal.invariant-loop-i
 invariant-loop-i l = record {

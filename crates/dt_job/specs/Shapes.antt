@@ -1,0 +1,52 @@
+-- Numbers and shapes that stand as words of a line.
+use Rattle.std.specs.Prelude.{ℕ, List, [], ◌∷◌, length, codes, Bool, ◌&&◌, ◌==◌, nat_le, if◌then◌else◌, Result, Ok}
+use Rattle.std.specs.List.{list_all}
+use Rattle.std.specs.Str.{bytes_eq}
+use Rattle.dt_text.specs.Lines.{onto_first}
+use Rattle.dt_text.specs.Numbers.{is_numeral, number_of}
+use Rattle.dt_model.specs.declared.cause.Cause.{Cause}
+use Rattle.dt_model.specs.declared.cause.Cause.TheVariants as cause
+use Rattle.dt_model.specs.Steps.{◌>>=◌, need, found}
+
+-- one or more words in the places of numbers
+abbrev pub are_numerals : List (List ℕ) → Bool
+are_numerals words = nat_le 1 (length words) && list_all is_numeral words
+
+-- the number of a word: it has to be digits, and then a number below 2 ^ 64
+unfoldable pub numeral_of : List ℕ → Result ℕ Cause
+numeral_of word = do
+  _ ← need (is_numeral word) cause.Syntax
+  found (number_of word) cause.BadNumber
+
+-- the numbers of words that are digits
+unfoldable pub numbers_of : List (List ℕ) → Result (List ℕ) Cause
+numbers_of [] = Ok []
+numbers_of (word ∷ words) = do
+  n ← found (number_of word) cause.BadNumber
+  ns ← numbers_of words
+  Ok (n ∷ ns)
+
+-- whether a byte is this one
+abbrev pub is_byte : ℕ → ℕ → Bool
+is_byte separator b = b == separator
+
+-- the pieces of a word between the bytes that separate them
+abbrev pub pieces_of : ℕ → List ℕ → List (List ℕ)
+pieces_of separator [] = [] ∷ []
+pieces_of separator (b ∷ bs) = if is_byte separator b then [] ∷ pieces_of separator bs else onto_first b (pieces_of separator bs)
+
+-- `scalar`
+abbrev pub is_scalar : List ℕ → Bool
+is_scalar word = bytes_eq word (codes "scalar")
+
+-- the words of a shape: none where it is `scalar`, and else those that `x` joins
+abbrev pub extent_words : List ℕ → List (List ℕ)
+extent_words shape = if is_scalar shape then [] else pieces_of 120 shape
+
+-- the level letters of a format, which commas join
+abbrev pub level_words : List ℕ → List (List ℕ)
+level_words format = pieces_of 44 format
+
+-- `d`, a dense level
+abbrev pub is_dense_letter : List ℕ → Bool
+is_dense_letter word = bytes_eq word (codes "d")
