@@ -1,4 +1,5 @@
 pub mod Assignments
+pub mod Counts
 pub mod Effects
 pub mod Fronts
 pub mod Joins

@@ -1,4 +1,4 @@
--- The text of a refused line, and which causes it shows.
+-- The text of a refused line.
 use Rattle.std.specs.Prelude.{ℕ, List, [], ◌∷◌, ◌++◌, codes}
 use Rattle.std.specs.Fmt.{decimal}
 use Rattle.dt_model.specs.declared.cause.Cause.{Cause}
@@ -150,9 +150,6 @@ line_end = 10 ∷ []
 abbrev pub refused_line_text : ℕ → Cause → List ℕ
 refused_line_text n c = codes "refused line " ++ decimal n ++ codes ": " ++ cause_text c ++ line_end
 
--- the cause that is printed: three are printed as they are, and every other as a fault of syntax
-abbrev pub shown : Cause → Cause
-shown cause.UnknownWord = cause.UnknownWord
-shown (cause.UnknownTensor name) = cause.UnknownTensor name
-shown (cause.ExtentClash name) = cause.ExtentClash name
-shown _ = cause.Syntax
+-- what is written where a plan is refused for the cause with this word
+abbrev pub refused_plan_text : List ℕ → List ℕ
+refused_plan_text word = codes "refused plan: " ++ word ++ line_end

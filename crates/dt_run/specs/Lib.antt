@@ -1,4 +1,5 @@
 pub mod CauseText
 pub mod Clauses
+pub mod Limits
 pub mod Outcome
 pub mod TensorText

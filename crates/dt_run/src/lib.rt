@@ -2,6 +2,7 @@
 #![tactic(auto)]
 
 mod answering;
+mod limits;
 mod refusal;
 mod short_text;
 mod statements;

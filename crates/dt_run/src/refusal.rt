@@ -1,8 +1,8 @@
 //! The text of a refused line. It takes no memory.
 
-ghost use Rattle.std.specs.Prelude.{◌≡◌, ◌≤◌, ◌+◌, ◌++◌, length};
+ghost use Rattle.std.specs.Prelude.{◌≡◌, ◌≤◌, ◌+◌, ◌++◌, codes, length};
 ghost use Rattle.std.specs.Fmt.{decimal};
-ghost use Rattle.dt_run.specs.CauseText.{argument, cause_arguments, cause_word, refused_line_text, shown as shown_cause};
+ghost use Rattle.dt_run.specs.CauseText.{argument, cause_arguments, cause_word, refused_line_text, refused_plan_text};
 
 use crate::short_text::ShortText;
 use dt_base::Name;
@@ -22,78 +22,17 @@ pub fn refused_line(line: u32, cause: &Cause) -> ShortText
     text
 }
 
-/// The cause that is printed by name. So far that is an unknown first word, an unknown tensor or a clash of
-/// extents; every other is printed as a fault of syntax.
-pub fn shown(cause: Cause) -> Cause
-    ensures { result ≡ shown_cause cause }
+/// What is written where a job has too many visits.
+pub fn refused_visits() -> ShortText
+    ensures { result ≡ refused_plan_text (codes "TooManyVisits") }
 {
-    match cause {
-        Cause::UnknownWord => Cause::UnknownWord,
-        Cause::UnknownTensor(name) => Cause::UnknownTensor(name),
-        Cause::ExtentClash(name) => Cause::ExtentClash(name),
-        Cause::LineTooLong
-        | Cause::BadByte(_)
-        | Cause::OutOfPlace
-        | Cause::Syntax
-        | Cause::BadNumber
-        | Cause::Unfinished
-        | Cause::Version
-        | Cause::BadDim
-        | Cause::NameTaken(_)
-        | Cause::TooManyTensors
-        | Cause::BadShape
-        | Cause::BadFormat
-        | Cause::TooManyStored
-        | Cause::Twice(_)
-        | Cause::WrongOrder(_)
-        | Cause::NameTwice(_)
-        | Cause::WrongDims
-        | Cause::NzMixed
-        | Cause::UnknownName(_)
-        | Cause::NameTwiceInLevel(_)
-        | Cause::ConstOut(_)
-        | Cause::NotDense(_)
-        | Cause::WrongCount
-        | Cause::OutOfShape(_)
-        | Cause::Repeated(_)
-        | Cause::BadName
-        | Cause::Missing(_)
-        | Cause::FileTooLong(_)
-        | Cause::BadRow(_)
-        | Cause::TooManyStatements
-        | Cause::LhsRepeats(_)
-        | Cause::OutputRead(_)
-        | Cause::OutputFormat(_)
-        | Cause::UnevenReduction(_)
-        | Cause::TooManyTerms
-        | Cause::TooManyLoops
-        | Cause::UnknownLoop(_)
-        | Cause::Distributed(_)
-        | Cause::Communicated(_)
-        | Cause::Fixed(_)
-        | Cause::NotOneChain
-        | Cause::NotAdjacent
-        | Cause::TooLarge
-        | Cause::NotOuter(_)
-        | Cause::NotOutermost(_)
-        | Cause::WrongExtent(_, _, _)
-        | Cause::NotBelowTask(_)
-        | Cause::BelowPre(_)
-        | Cause::NotOneTerm
-        | Cause::BadFactors
-        | Cause::BadLoops
-        | Cause::LhsDepends(_)
-        | Cause::Entangled(_)
-        | Cause::NotEveryTerm(_)
-        | Cause::RepeatedVariable(_)
-        | Cause::Derived(_)
-        | Cause::NotInnermost(_)
-        | Cause::WrongFactorCount
-        | Cause::UnknownKernel => Cause::Syntax,
-    }
+    let mut text = ShortText::new();
+    text.append(b"refused plan: ");
+    text.append(b"TooManyVisits");
+    text.append(b"\n");
+    text
 }
 
-/// The name of a cause.
 fn word(cause: &Cause) -> &'static [u8]
     ensures word { result.now ≡ cause_word cause.now }
     ensures short { length result.now ≤ 17 }

@@ -1,7 +1,7 @@
 ghost use Rattle.std.specs.Prelude.{◌≡◌, All, IfOk, false, replicate, [], ◌∷◌};
 ghost use Rattle.dt_model.specs.Stmts.{IsStmt, shapes_of};
 
-use crate::refusal::{refused_line, shown};
+use crate::refusal::refused_line;
 use crate::statements::run_statements;
 use crate::tensor_text::put_tensor;
 use dt_base::{Bytes, Extents, Name, NoMemory, Vars};
@@ -27,14 +27,6 @@ fn refuses_with_the_cause_and_its_arguments(rt: HostRuntime) {
             b"refused line 4294967295: WrongExtent io 3 4\n"
         )
     );
-}
-
-#[test]
-fn shows_three_causes_and_else_a_fault_of_syntax(rt: HostRuntime) {
-    let clash = shown(Cause::ExtentClash(Name::from_slice(b"k")));
-    let repeats = shown(Cause::LhsRepeats(Name::from_slice(b"k")));
-    assert!(rt; refusal(5, clash, b"refused line 5: ExtentClash k\n"));
-    assert!(rt; refusal(5, repeats, b"refused line 5: Syntax\n"));
 }
 
 fn whole(alloc: Global, extents: &[u32], values: &[u64]) -> Result<Whole, Fail>

@@ -78,30 +78,68 @@ fn prints_the_product(rt: HostRuntime) -> Result<(), Fail> {
 
 #[test]
 fn refuses_the_first_line_with_a_cause(rt: HostRuntime) -> Result<(), Fail> {
-    let changes: [(usize, &[u8], &[u8]); 10] = [
+    let changes: [(usize, &[u8], &[u8]); 9] = [
         (
             8,
             b"stmt A(i,j) = B(i,k) * D(k,j)",
             b"refused line 8: UnknownTensor D\n",
         ),
         (3, b"tensor A 3x2", b"refused line 8: ExtentClash i\n"),
-        (
-            8,
-            b"stmt A(i,j) = B(i,j) + C(i,j)",
-            b"refused line 8: Syntax\n",
-        ),
         (9, b"split i io ii 2", b"refused line 9: UnknownWord\n"),
-        (1, b"distal 2", b"refused line 1: Syntax\n"),
+        (1, b"distal 2", b"refused line 1: Version\n"),
         (2, b"machine 2", b"refused line 2: Syntax\n"),
-        (6, b"data B 1 2 3", b"refused line 6: Syntax\n"),
-        (7, b"data D 5 6 7 8", b"refused line 7: UnknownTensor D\n"),
-        (9, b"# no end", b"refused line 10: Syntax\n"),
-        (10, b"", b"refused line 11: Syntax\n"),
+        (6, b"data B 1 2 3", b"refused line 6: WrongCount\n"),
+        (7, b"data B 5 6 7 8", b"refused line 7: Twice B\n"),
+        (9, b"# no end", b"refused line 10: OutOfPlace\n"),
+        (10, b"print D", b"refused line 10: UnknownTensor D\n"),
     ];
     for (at, line, text) in changes {
         let (status, out) = run(rt.alloc(), "run", job(rt.alloc(), at, line)?, &NO_FAULT)?;
         assert_eq!(rt; status, Status::Refused);
         assert_eq!(rt; out.written(), text);
+    }
+    Ok(())
+}
+
+#[test]
+fn whole_jobs_print_their_answers(rt: HostRuntime) -> Result<(), Fail> {
+    let jobs: [(&[u8], &[u8]); 9] = [
+        (
+            b"distal 1\nmachine 1\ntensor s scalar\ntensor b scalar\ndata b 18446744073709551615\nstmt s = b * 2\nend\nprint s\n",
+            b"distal run\ntensor s scalar\n18446744073709551614\n",
+        ),
+        (
+            b"distal 1\nmachine 1\ntensor A 2\ntensor B 2x2\ntensor c 2\nstmt A(i) = B(i,k) + c(i)\nend\nprint A\n",
+            b"refused line 6: UnevenReduction k\n",
+        ),
+        (
+            b"distal 1\nmachine 1\ntensor A 2x2\ntensor B 2x3\ntensor C 2x2\nstmt A(i,j) = B(i,k) * C(k,j)\nend\n",
+            b"refused line 6: ExtentClash k\n",
+        ),
+        (b"", b"refused line 1: Unfinished\n"),
+        (
+            b"distal 1\nmachine 1\ntensor s scalar\nstmt s = 1",
+            b"refused line 5: Unfinished\n",
+        ),
+        (
+            b"distal 1\nmachine 1\ntensor a 3\nfill a seed 7\nprint a\n",
+            b"distal run\ntensor a 3\n1059165278 2052263231 1946856753\n",
+        ),
+        (
+            b"distal 1\nmachine 1\ntensor y 3\ntensor x 3\nfill x ramp\nstmt y(i) = x(i) * x(i)\nend\nstmt y(i) += - x(i)\nend\nprint y\nprint x\n",
+            b"distal run\ntensor y 3\n0 2 6\ntensor x 3\n1 2 3\n",
+        ),
+        (
+            b"distal 1\nmachine 1\ntensor s scalar\ntensor a 2048\nstmt s = a(i) * a(j)\nend\nstmt s += 1\nend\n",
+            b"refused plan: TooManyVisits\n",
+        ),
+        (b"distal 1\nmachine 1", b"distal run\n"),
+    ];
+    for (text, answer) in jobs {
+        let mut bytes = Bytes::new(rt.alloc());
+        bytes.append(text).ok().ok_or("memory")?;
+        let (_, out) = run(rt.alloc(), "run", bytes, &NO_FAULT)?;
+        assert_eq!(rt; out.written(), answer);
     }
     Ok(())
 }
