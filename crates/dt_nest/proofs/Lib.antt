@@ -1,0 +1,14 @@
+pub mod ChainLawful
+pub mod ChainSums
+pub mod Schedulable
+pub mod Names
+pub mod Slots
+pub mod Moves
+pub mod LoopMoves
+pub mod Searches
+pub mod NextSearches
+pub mod Rotated
+pub mod Prefixes
+pub mod Known
+pub mod Agreement
+pub mod Pruned

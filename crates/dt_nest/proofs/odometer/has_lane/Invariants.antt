@@ -1,0 +1,10 @@
+use Rattle.std.proofs.Common.{◌≡◌, false}
+use Rattle.std.specs.List.{list_any, range_with_len}
+use Rattle.dt_nest.specs.Tree.{tree_of}
+use Rattle.dt_nest.specs.Naming.{pairs_in}
+use Rattle.dt_nest.specs.Visits.{is_valid}
+use Rattle.dt_nest.specs.Odometer.{guards_of}
+use Rattle.dt_nest.proofs.odometer.has_lane.Given as goal
+
+abbrev pub invariant-loop-x : goal.invariant-loop-x
+invariant-loop-x g l = (l.slots ≡ l.initial.slots) × (list_any (is_valid (g.T.Testing.tests l.tests) l.walk l.var (guards_of (tree_of l.body)) (pairs_in l.naming) l.slots) (range_with_len 0 l.x) ≡ false)

@@ -1,0 +1,17 @@
+pub mod Chain
+pub mod Commands
+pub mod Each
+pub mod Inside
+pub mod Lawful
+pub mod Meaning
+pub mod Naming
+pub mod Odometer
+pub mod Prefix
+pub mod Schedule
+pub mod Sums
+pub mod Tree
+pub mod TreeCode
+pub mod Unit
+pub mod Values
+pub mod Visits
+pub mod World
