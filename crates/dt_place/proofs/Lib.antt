@@ -1,0 +1,13 @@
+pub mod Assignments
+pub mod BlockLemmas
+pub mod Coordinates
+pub mod Coverage
+pub mod DenseHomes
+pub mod HomeFacts
+pub mod MachineFacts
+pub mod PieceLemmas
+pub mod PlaceFacts
+pub mod PlaceSteps
+pub mod PositionSets
+pub mod SideLemmas
+pub mod WordLists

@@ -1,0 +1,9 @@
+pub mod Blocks
+pub mod HomeLaws
+pub mod Homes
+pub mod MachineLaws
+pub mod MachineLine
+pub mod Machines
+pub mod Pieces
+pub mod PlaceLine
+pub mod Placements
