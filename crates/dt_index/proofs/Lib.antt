@@ -11,5 +11,6 @@ pub mod PrintOrigins
 pub mod PrintParsing
 pub mod PrintPieces
 pub mod RefFacts
+pub mod SetFacts
 pub mod SymbolSteps
 pub mod UsedFacts

@@ -12,6 +12,7 @@ use Rattle.std.proofs.lemmas.List.Elements.{filter-append, All-head, All-tail}
 use Rattle.std.proofs.lemmas.List.Folds.{list_any_at, list_any-append}
 use Rattle.std.proofs.lemmas.List.Sums.{sum_by-cons}
 use Rattle.dt_base.specs.Ranges.{below}
+use Rattle.dt_index.specs.NameSets.{with_name}
 use Rattle.dt_index.specs.Resolve.{distinct, number_in}
 
 -- whether the list has the name
@@ -199,19 +200,10 @@ joined_more vs more i v l item =
     let whole : vs ++ take (i + 1) more ≡ (vs ++ take i more) ++ v ∷ [] = ap (λ (z : List (List ℕ)). vs ++ z) one ∙ sym (append_assoc vs (take i more) (v ∷ [])) in
     rw (has-distinct (vs ++ take i more) v) (ap (λ (z : List (List ℕ)). distinct z) whole ∙ distinct-push (vs ++ take i more) v)
 
--- a loop's step at a name that is new
-pub joined_new : (vs more : List (List ℕ)) (i : ℕ) (v : List ℕ) (old new : List (List ℕ)) → i < length more → v ≡ get_or more i v → old ≡ distinct (vs ++ take i more)
-    → has old v ≡ false → new ≡ old ++ v ∷ [] → new ≡ distinct (vs ++ take (i + 1) more)
-joined_new vs more i v old new l item e t n =
-    let lacking : has (distinct (vs ++ take i more)) v ≡ false = ap (λ (z : List (List ℕ)). has z v) (sym e) ∙ t in
-    rw (joined_more vs more i v l item, lacking) (n ∙ ap (λ (z : List (List ℕ)). z ++ v ∷ []) e)
-
--- a loop's step at a name that stands already
-pub joined_known : (vs more : List (List ℕ)) (i : ℕ) (v : List ℕ) (old new : List (List ℕ)) → i < length more → v ≡ get_or more i v → old ≡ distinct (vs ++ take i more)
-    → has old v ≡ true → new ≡ old → new ≡ distinct (vs ++ take (i + 1) more)
-joined_known vs more i v old new l item e t n =
-    let known : has (distinct (vs ++ take i more)) v ≡ true = ap (λ (z : List (List ℕ)). has z v) (sym e) ∙ t in
-    rw (joined_more vs more i v l item, known) (n ∙ e)
+-- a loop's step at a name, which counts only where it is new
+pub joined_name : (vs more : List (List ℕ)) (i : ℕ) (v : List ℕ) (old new : List (List ℕ)) → i < length more → v ≡ get_or more i v → old ≡ distinct (vs ++ take i more)
+    → new ≡ with_name old v → new ≡ distinct (vs ++ take (i + 1) more)
+joined_name vs more i v old new l item e n = n ∙ ap (λ (z : List (List ℕ)). with_name z v) e ∙ sym (joined_more vs more i v l item)
 
 -- without a name a list has not that name
 without-lacks : (x : List ℕ) (ys : List (List ℕ)) → has (without x ys) x ≡ false

@@ -50,6 +50,18 @@ pub record IsGoodForm (L : Option ℕ → Type 0) (f : Form) : Type 0 where
   pub some : HasSome f.terms
   pub terms : AllByRecursion (IsGoodTerm L) f.terms
 
+-- an access of these names
+abbrev pub access_with : List ℕ → List (List ℕ) → NamedAccess
+access_with t vs = record { tensor = t; vars = vs }
+
+-- a term of these factors
+abbrev pub term_with : Bool → List NamedFactor → NamedTerm
+term_with minus gs = record { minus = minus; factors = gs }
+
+-- a form of these parts
+abbrev pub form_with : NamedAccess → Bool → List NamedTerm → Form
+form_with a adds ts = record { lhs = a; adds = adds; terms = ts }
+
 -- Symbols -------------------------------------------------------------------------------------------------------------
 
 -- a variable and those behind it, up to the closing parenthesis

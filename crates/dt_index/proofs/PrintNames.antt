@@ -21,7 +21,7 @@ use Rattle.dt_index.specs.declared.form.NamedFactor.TheVariants as factor
 use Rattle.dt_index.specs.declared.form.NamedTerm.{NamedTerm}
 use Rattle.dt_index.proofs.NameFacts.{bytes_eq-refl, bytes_eq-same, has, has-distinct, number_in-place, place, place-inside}
 use Rattle.dt_index.proofs.PrintOrigins.{first_ok, same_ok}
-use Rattle.dt_index.proofs.PrintForms.{IsNumber, IsGoodFactor, IsGoodTerm, IsGoodForm}
+use Rattle.dt_index.proofs.PrintForms.{IsNumber, IsGoodFactor, IsGoodTerm, IsGoodForm, access_with, form_with, term_with}
 
 -- Tensors and variables -----------------------------------------------------------------------------------------------
 
@@ -62,10 +62,6 @@ pub record IsNumbered (tensors : List Known) (vs : List (List ℕ)) (a : NamedAc
   pub known : is_none (place_of a.tensor tensors) ≡ false
   pub vars : AllByRecursion (λ v. has vs v ≡ true) a.vars
 
--- an access of these names
-abbrev pub access_with : List ℕ → List (List ℕ) → NamedAccess
-access_with t vs = record { tensor = t; vars = vs }
-
 access_back : (tensors : List Known) (vs : List (List ℕ)) (a : NamedAccess) → IsNumbered tensors vs a → named_access vs (names_of tensors) (numbered tensors vs a) ≡ a
 access_back tensors vs a h =
     let t : name_at (names_of tensors) (unwrap_or (place_of a.tensor tensors) 0) ≡ a.tensor = tensor_back tensors a.tensor h.known in
@@ -93,10 +89,6 @@ factors_back tensors vs (g ∷ gs) h good =
     let others : map (named_factor vs (names_of tensors)) (map (numbered_factor tensors vs) gs) ≡ gs = factors_back tensors vs gs h.1 good.1 in
     ap (λ (x : NamedFactor). x ∷ map (named_factor vs (names_of tensors)) (map (numbered_factor tensors vs) gs)) first ∙ ap (λ (xs : List NamedFactor). g ∷ xs) others
 
--- a term of these factors
-abbrev pub term_with : Bool → List NamedFactor → NamedTerm
-term_with minus gs = record { minus = minus; factors = gs }
-
 terms_back : (tensors : List Known) (vs : List (List ℕ)) (ts : List NamedTerm) → AllByRecursion (λ t. AllByRecursion (IsNumberedFactor tensors vs) t.factors) ts → AllByRecursion (IsGoodTerm IsNumber) ts
     → map (named_term vs (names_of tensors)) (map (numbered_term tensors vs) ts) ≡ ts
 terms_back tensors vs [] h good = refl
@@ -104,10 +96,6 @@ terms_back tensors vs (t ∷ ts) h good =
     let first : map (named_factor vs (names_of tensors)) (map (numbered_factor tensors vs) t.factors) ≡ t.factors = factors_back tensors vs t.factors h.0 good.0.1 in
     let others : map (named_term vs (names_of tensors)) (map (numbered_term tensors vs) ts) ≡ ts = terms_back tensors vs ts h.1 good.1 in
     ap (λ (x : List NamedFactor). term_with t.minus x ∷ map (named_term vs (names_of tensors)) (map (numbered_term tensors vs) ts)) first ∙ ap (λ (xs : List NamedTerm). t ∷ xs) others
-
--- a form of these parts
-abbrev pub form_with : NamedAccess → Bool → List NamedTerm → Form
-form_with a adds ts = record { lhs = a; adds = adds; terms = ts }
 
 -- a statement by numbers, by names again
 form_back : (tensors : List Known) (f : Form) → IsNumbered tensors (variables_of f) f.lhs

@@ -18,7 +18,7 @@ use Rattle.dt_index.specs.declared.form.NamedFactor.TheVariants as factor
 use Rattle.dt_index.specs.declared.form.NamedTerm.{NamedTerm}
 use Rattle.dt_index.specs.declared.symbol_list.Symbol.{Symbol}
 use Rattle.dt_index.specs.declared.symbol_list.Symbol.TheVariants as symbol
-use Rattle.dt_index.proofs.PrintForms.{HasSome, IsName, IsNumber, IsSmallNumber, IsGoodAccess, IsGoodFactor, IsGoodTerm, IsGoodForm}
+use Rattle.dt_index.proofs.PrintForms.{HasSome, IsName, IsNumber, IsSmallNumber, IsGoodAccess, IsGoodFactor, IsGoodTerm, IsGoodForm, access_with, form_with, term_with}
 
 -- Steps ---------------------------------------------------------------------------------------------------------------
 
@@ -198,11 +198,10 @@ access_good : (ss : List Symbol) (a : NamedAccess) → access_of ss ≡ Ok a →
 unfolding access_of
 access_good [] a h g = cc
 access_good (s ∷ rest) a h g =
-    let made : List ℕ → List (List ℕ) → NamedAccess = λ t vs. record { tensor = t; vars = vs } in
-    let first : (t : List ℕ) × (found (name_of s) cause.Syntax ≡ Ok t) × ((vars_behind rest >>= λ vs. Ok (made t vs)) ≡ Ok a) =
-    first_ok (found (name_of s) cause.Syntax) (λ t. vars_behind rest >>= λ vs. Ok (made t vs)) a h in
-    let vars : (vs : List (List ℕ)) × (vars_behind rest ≡ Ok vs) × GivesSame (made first.0 vs) a = first_ok (vars_behind rest) (λ vs. Ok (made first.0 vs)) a first.2 in
-    subst (λ (x : NamedAccess). IsGoodAccess x) (same_ok (made first.0 vars.0) a vars.2)
+    let first : (t : List ℕ) × (found (name_of s) cause.Syntax ≡ Ok t) × ((vars_behind rest >>= λ vs. Ok (access_with t vs)) ≡ Ok a) =
+    first_ok (found (name_of s) cause.Syntax) (λ t. vars_behind rest >>= λ vs. Ok (access_with t vs)) a h in
+    let vars : (vs : List (List ℕ)) × (vars_behind rest ≡ Ok vs) × GivesSame (access_with first.0 vs) a = first_ok (vars_behind rest) (λ vs. Ok (access_with first.0 vs)) a first.2 in
+    subst (λ (x : NamedAccess). IsGoodAccess x) (same_ok (access_with first.0 vars.0) a vars.2)
     (name_good s first.0 (found_some (name_of s) cause.Syntax first.0 first.1) g.0, behind_good rest vars.0 vars.1 g.1)
 
 -- Factors -------------------------------------------------------------------------------------------------------------
@@ -243,10 +242,6 @@ factors_some (part ∷ parts) gs h some =
 
 -- Terms ---------------------------------------------------------------------------------------------------------------
 
--- a term of these factors
-abbrev pub term_with : Bool → List NamedFactor → NamedTerm
-term_with minus gs = record { minus = minus; factors = gs }
-
 terms_apart : (part : SignedPart) (parts : List SignedPart) (ts : List NamedTerm) → terms_in (part ∷ parts) ≡ Ok ts
     → (gs : List NamedFactor) × (factors_in (factor_parts part.symbols) ≡ Ok gs) × ((rest : List NamedTerm) × (terms_in parts ≡ Ok rest) × (term_with part.minus gs ∷ rest ≡ ts))
 unfolding terms_in
@@ -286,10 +281,6 @@ right_side_good (symbol.Minus ∷ rest) ts h good = side_good true rest ts h goo
 right_side_good ss ts h good = side_good false ss ts h good
 
 -- Statements ----------------------------------------------------------------------------------------------------------
-
--- a form of these parts
-abbrev pub form_with : NamedAccess → Bool → List NamedTerm → Form
-form_with a adds ts = record { lhs = a; adds = adds; terms = ts }
 
 -- the form that symbols have can be printed, but for literals without a value
 pub form_good : (ss : List Symbol) (f : Form) → form_of ss ≡ Ok f → AreGood ss → IsGoodForm IsSmallNumber f

@@ -1,5 +1,6 @@
 pub mod Form
 pub mod Known
+pub mod NameSets
 pub mod NextPart
 pub mod NextVar
 pub mod Printed

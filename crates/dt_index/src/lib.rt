@@ -2,9 +2,12 @@
 #![tactic(auto)]
 
 mod access_list;
+mod clash;
+mod first_extents;
 mod form;
 mod form_reading;
 mod lookup;
+mod name_set;
 mod numbering;
 mod occurrence_list;
 mod occurrences;
@@ -18,6 +21,7 @@ mod symbol_list;
 mod symbols;
 #[cfg(test)]
 mod tests;
+mod uneven;
 
 pub use form::{Form, NamedAccess, NamedFactor, NamedFactors, NamedTerm, NamedTerms};
 pub use form_reading::read_form;

@@ -7,6 +7,7 @@ ghost use Rattle.dt_index.specs.Resolve.{distinct, extent_of, number_in, numbere
 
 use crate::form::{Form, NamedAccess, NamedFactor, NamedTerm};
 use crate::lookup::Lookup;
+use crate::name_set::NameSet;
 use crate::occurrence_list::Occurrence;
 use crate::offenders::same_name;
 use dt_base::{Extents, Name, Names, NoMemory, Vars};
@@ -17,23 +18,31 @@ use std::alloc::Global;
 pub(crate) fn variables_in(alloc: Global, accesses: &[&NamedAccess]) -> Result<Names, NoMemory>
     ensures { IfOk result (λ vs. vs ≡ distinct (flat_map (λ a. a.vars) (map (λ a. a.now) accesses.now))) }
 {
-    let mut variables = Names::new(alloc);
+    let mut variables = NameSet::new(alloc);
     for access in accesses {
         add_new(&mut variables, access.vars.as_slice())?;
     }
-    Ok(variables)
+    copied_names(alloc, variables.as_slice())
 }
 
 /// Puts those names at the end that don't stand there yet.
-fn add_new(names: &mut Names, more: &[Name]) -> Result<(), NoMemory>
+fn add_new(names: &mut NameSet, more: &[Name]) -> Result<(), NoMemory>
     ensures { OnOk result ((vs : List (List ℕ)) → names.old ≡ distinct vs → names.new ≡ distinct (vs ++ more.now)) }
 {
     for name in more {
-        if !has_name(names.as_slice(), name) {
-            names.push(name.copied())?;
-        }
+        names.insert(name.copied())?;
     }
     Ok(())
+}
+
+fn copied_names(alloc: Global, names: &[Name]) -> Result<Names, NoMemory>
+    ensures { IfOk result (λ copies. copies ≡ names.now) }
+{
+    let mut copies = Names::new(alloc);
+    for name in names {
+        copies.push(name.copied())?;
+    }
+    Ok(copies)
 }
 
 pub(crate) fn has_name(names: &[Name], name: &Name) -> bool

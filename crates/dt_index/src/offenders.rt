@@ -5,12 +5,10 @@ ghost use Rattle.std.specs.List.{list_all, list_any};
 ghost use Rattle.std.specs.Option.{option_copied};
 ghost use Rattle.std.specs.Str.{bytes_eq};
 ghost use Rattle.dt_index.specs.Known.{place_of};
-ghost use Rattle.dt_index.specs.Resolve.{accesses_of, clashes, extent_clash, factor_has, has_dense_output, has_few_terms, has_good_literals, is_bad_literal, is_uneven, lhs_repeats, named_extents, output_read, right_accesses, term_has, uneven_reduction, unknown_tensor, wrong_order};
+ghost use Rattle.dt_index.specs.Resolve.{accesses_of, has_dense_output, has_few_terms, has_good_literals, is_bad_literal, lhs_repeats, named_extents, output_read, right_accesses, unknown_tensor, wrong_order};
 
 use crate::form::{Form, NamedAccess, NamedFactor, NamedTerm};
 use crate::lookup::Lookup;
-use crate::numbering::{extent_of, has_name};
-use crate::occurrence_list::Occurrence;
 use crate::occurrences::named_shape;
 use dt_base::Name;
 use dt_model::Cause;
@@ -146,76 +144,6 @@ pub(crate) fn has_dense_output<L: Lookup>(form: &Form, names: &L) -> bool
     match names.find(form.lhs.tensor.as_slice()) {
         None => false,
         Some(tensor) => names.dense(tensor),
-    }
-}
-
-pub(crate) fn extent_clash(occurrences: &[Occurrence], variables: &[Name]) -> Option<Cause>
-    ensures { result ≡ extent_clash occurrences.now variables.now }
-{
-    match first_clash(occurrences, variables) {
-        None => None,
-        Some(variable) => Some(Cause::ExtentClash(variable.copied())),
-    }
-}
-
-fn first_clash<'a>(occurrences: &[Occurrence], variables: &'a [Name]) -> Option<&'a Name>
-    ensures { option_copied result ≡ find (clashes occurrences.now) variables.now }
-{
-    variables
-        .iter()
-        .find(|variable| clashes(occurrences, variable))
-}
-
-fn clashes(occurrences: &[Occurrence], variable: &Name) -> bool
-    ensures { result ≡ clashes occurrences.now variable.now }
-{
-    let extent = extent_of(variable, occurrences);
-    occurrences.iter().any(|other| same_name(&other.name, variable) && other.extent != extent)
-}
-
-pub(crate) fn uneven_reduction(form: &Form, variables: &[Name]) -> Option<Cause>
-    ensures { result ≡ uneven_reduction form.now variables.now }
-{
-    match first_uneven(form, variables) {
-        None => None,
-        Some(variable) => Some(Cause::UnevenReduction(variable.copied())),
-    }
-}
-
-fn first_uneven<'a>(form: &Form, variables: &'a [Name]) -> Option<&'a Name>
-    ensures { option_copied result ≡ find (is_uneven form.now) variables.now }
-{
-    variables.iter().find(|variable| is_uneven(form, variable))
-}
-
-fn is_uneven(form: &Form, variable: &Name) -> bool
-    ensures { result ≡ is_uneven form.now variable.now }
-{
-    !has_name(form.lhs.vars.as_slice(), variable)
-        && some_term_lacks(form.terms.as_slice(), variable)
-}
-
-fn some_term_lacks(terms: &[NamedTerm], variable: &Name) -> bool
-    ensures { result ≡ list_any (λ t. not (term_has variable.now t)) terms.now }
-{
-    terms.iter().any(|term| !term_has(term, variable))
-}
-
-fn term_has(term: &NamedTerm, variable: &Name) -> bool
-    ensures { result ≡ term_has variable.now term.now }
-{
-    term.factors
-        .as_slice()
-        .iter()
-        .any(|factor| factor_has(factor, variable))
-}
-
-fn factor_has(factor: &NamedFactor, variable: &Name) -> bool
-    ensures { result ≡ factor_has variable.now factor.now }
-{
-    match factor {
-        NamedFactor::Read(access) => has_name(access.vars.as_slice(), variable),
-        NamedFactor::Literal(_) => false,
     }
 }
 

@@ -7,14 +7,16 @@ ghost use Rattle.dt_index.specs.Known.{shapes_of_known};
 ghost use Rattle.dt_index.specs.Resolve.{Resolved, IsSmall, resolved_of};
 
 use crate::access_list::{all_accesses, right_accesses};
+use crate::clash::extent_clash;
 use crate::form::Form;
 use crate::lookup::Lookup;
 use crate::numbering::{statement, variables_in};
 use crate::occurrences::occurrences_in;
 use crate::offenders::{
-    extent_clash, has_dense_output, has_few_terms, has_good_literals, lhs_repeats, output_read,
-    uneven_reduction, unknown_tensor, wrong_order,
+    has_dense_output, has_few_terms, has_good_literals, lhs_repeats, output_read, unknown_tensor,
+    wrong_order,
 };
+use crate::uneven::uneven_reduction;
 use dt_base::Names;
 use dt_model::{Cause, LineEnd, Stmt};
 use std::alloc::Global;
@@ -53,10 +55,10 @@ pub fn resolve<L: Lookup>(alloc: Global, form: &Form, names: &L) -> Result<(Stmt
     }
     let variables = variables_in(alloc, accesses.as_slice())?;
     let occurrences = occurrences_in(alloc, accesses.as_slice(), names)?;
-    if let Some(cause) = extent_clash(occurrences.as_slice(), variables.as_slice()) {
+    if let Some(cause) = extent_clash(alloc, occurrences.as_slice(), variables.as_slice())? {
         return Err(LineEnd::Refused(cause));
     }
-    if let Some(cause) = uneven_reduction(form, variables.as_slice()) {
+    if let Some(cause) = uneven_reduction(alloc, form, variables.as_slice())? {
         return Err(LineEnd::Refused(cause));
     }
     if !has_few_terms(form) {

@@ -27,7 +27,7 @@ returns-clause-lawful g c =
     let repeats : lhs_repeats f ≡ None = none_left c.lhs_repeats.result (lhs_repeats f) c.lhs_repeats.ensures c.in_default-lhs_repeats.not-Some in
     let clash : extent_clash (occurrences tensors f) (variables_of f) ≡ None =
     ap (λ (os : List Occurrence). extent_clash os (variables_of f)) (sym (c.as_slice-7.ensures ∙ standing)) ∙ ap (λ (vs : List (List ℕ)). extent_clash c.as_slice-7.result.now vs) (sym (c.as_slice-8.ensures ∙ variables))
-    ∙ none_left c.extent_clash.result (extent_clash c.as_slice-7.result.now c.as_slice-8.result.now) c.extent_clash.ensures c.in_default-extent_clash.not-Some in
+    ∙ none_left c.in_ok-cause.field-0 (extent_clash c.as_slice-7.result.now c.as_slice-8.result.now) c.in_ok-cause.ensures c.in_default-2.not-Some in
     let few : length (variables_of f) ≤ 8 = subst (λ (vs : List (List ℕ)). length vs ≤ 8) (c.as_slice-10.ensures ∙ variables) c.if-as_slice-gt-MOST_VARIABLES.false in
     let small : All (λ a. length (named_extents tensors a.tensor) ≤ 4) (accesses_of f) =
     subst (λ (xs : List NamedAccess). All (λ a. length (named_extents tensors a.tensor) ≤ 4) xs) (ap (λ s. map (λ a. a.now) s) c.as_slice-6.ensures.value ∙ all) c.in_ok-occurrences.ensures.few in
@@ -59,7 +59,7 @@ returns-clause-even g c =
     ∙ ap (λ (os : List Occurrence). stmt_by tensors (variables_of f) os f) (c.as_slice-12.ensures ∙ standing) in
     let repeats : lhs_repeats f ≡ None = none_left c.lhs_repeats.result (lhs_repeats f) c.lhs_repeats.ensures c.in_default-lhs_repeats.not-Some in
     let even : uneven_reduction f (variables_of f) ≡ None =
-    ap (λ (vs : List (List ℕ)). uneven_reduction f vs) (sym (c.as_slice-9.ensures ∙ variables)) ∙ none_left c.uneven_reduction.result (uneven_reduction f c.as_slice-9.result.now) c.uneven_reduction.ensures c.in_default-uneven_reduction.not-Some in
+    ap (λ (vs : List (List ℕ)). uneven_reduction f vs) (sym (c.as_slice-9.ensures ∙ variables)) ∙ none_left c.in_ok-cause-2.field-0 (uneven_reduction f c.as_slice-9.result.now) c.in_ok-cause-2.ensures c.in_default-3.not-Some in
     subst (λ (s : Stmt). AreEven s) (sym same) (even_stmt tensors f repeats even)
 
 pub returns-clause-small : goal.returns-clause-small
