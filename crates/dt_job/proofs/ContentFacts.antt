@@ -17,7 +17,6 @@ use Rattle.indexmap.specs.Layout.{set_value_at}
 use Rattle.indexmap.proofs.MapLemmas.{some_index}
 use Rattle.dt_job.specs.declared.outputs.Show.{Show}
 use Rattle.dt_job.specs.declared.outputs.Show.TheVariants.{Print}
-use Rattle.dt_job.specs.declared.phases.Phase.{Phase}
 use Rattle.dt_job.specs.Contents.{Content, Contents, extents_of_all, known_of, names_of, tensor_of, tensors_of}
 use Rattle.dt_job.specs.Drafts.{DraftView, IsDraft}
 use Rattle.dt_job.specs.Jobs.{IsJob, IsJobStmt, IsJobTensor, ShowsBelow}

@@ -1,6 +1,6 @@
 -- The pieces of a word, from the first one on.
-use Rattle.std.proofs.Common.{◌≡◌, ℕ, suc, ◌+◌, ◌-◌, ◌<◌, ◌≤◌, List, [], ◌∷◌, ◌++◌, length, take, drop, map, get_or, Bool, true, false, not, arith, refl, sym, ap, ◌∙◌, subst, inl, inr}
-use Rattle.std.specs.List.{prefix_len, position_or_len}
+use Rattle.std.proofs.Common.{◌≡◌, ℕ, ◌+◌, ◌-◌, ◌<◌, ◌≤◌, List, [], ◌∷◌, ◌++◌, length, take, drop, map, true, false, arith, refl, sym, ap, ◌∙◌, subst, inl, inr}
+use Rattle.std.specs.List.{position_or_len}
 use Rattle.std.specs.Prelude.{slice_range}
 use Rattle.std.proofs.lemmas.List.{append_assoc, drop-drop, length-drop, map-append, take_all}
 use Rattle.dt_text.specs.Lines.{onto_first}

@@ -1,5 +1,5 @@
 -- The tensors that a job declares.
-use Rattle.std.specs.Prelude.{ℕ, List, [], ◌∷◌, map, replicate, Bool, true, false, Option, Some, is_some, option_map, unwrap_or, slice_get}
+use Rattle.std.specs.Prelude.{ℕ, List, map, replicate, Bool, true, false, Option, Some, is_some, option_map, unwrap_or, slice_get}
 use Rattle.dt_base.specs.Rows.{product}
 use Rattle.dt_index.specs.Known.{Known}
 use Rattle.dt_tensor.specs.Packed.{Packed, dense_tensor}

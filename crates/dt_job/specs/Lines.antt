@@ -1,5 +1,5 @@
 -- What each line says: the draft after it, or the first cause against it.
-use Rattle.std.specs.Prelude.{ℕ, List, [], ◌∷◌, ◌++◌, length, codes, Bool, not, ◌&&◌, ◌==◌, nat_le, nat_lt, if◌then◌else◌, None, is_some, Result, Ok, Err}
+use Rattle.std.specs.Prelude.{ℕ, List, [], ◌∷◌, ◌++◌, length, codes, not, ◌&&◌, ◌==◌, nat_le, nat_lt, if◌then◌else◌, None, is_some, Result, Ok, Err}
 use Rattle.std.specs.List.{list_all}
 use Rattle.std.specs.Str.{bytes_eq}
 use Rattle.dt_base.specs.Rows.{product}
@@ -20,7 +20,7 @@ use Rattle.dt_index.specs.Known.{place_of}
 use Rattle.dt_index.specs.Resolve.{parsed_of}
 use Rattle.dt_job.specs.declared.outputs.Show.TheVariants.{Print}
 use Rattle.dt_job.specs.declared.phases.Phase.TheVariants as phase
-use Rattle.dt_job.specs.Contents.{Content, position_count_of, is_given, known_of, with_values}
+use Rattle.dt_job.specs.Contents.{position_count_of, is_given, known_of, with_values}
 use Rattle.dt_job.specs.Drafts.{DraftView}
 use Rattle.dt_job.specs.Fills.{fill_values}
 use Rattle.dt_job.specs.declared.fills.Fill.{Fill}

@@ -1,9 +1,7 @@
-use Rattle.std.proofs.Common.{◌≡◌, ◌+◌, List, ℕ, [], arith, ap, sym, ◌∙◌, append-nil, map, drop, length, subst, All}
-use Rattle.std.specs.List.{position_or_len}
+use Rattle.std.proofs.Common.{◌+◌, List, ℕ, [], arith, ap, sym, ◌∙◌, append-nil, map, length, subst, All}
 use Rattle.std.proofs.lemmas.List.Elements.{All-push}
 use Rattle.dt_text.specs.Spans.{IsToken, token_in}
 use Rattle.dt_text.specs.declared.token_list.Token.{Token}
-use Rattle.dt_job.specs.Shapes.{is_byte}
 use Rattle.dt_job.proofs.PieceLemmas.{piece_at, piece_end, piece_last, piece_more}
 use Rattle.dt_job.proofs.shapes.pieces.Goals as goal
 

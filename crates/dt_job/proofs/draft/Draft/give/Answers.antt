@@ -1,4 +1,4 @@
-use Rattle.std.proofs.Common.{◌≡◌, ap, slice_get, option_map, Some, subst, sym, ◌∙◌}
+use Rattle.std.proofs.Common.{◌≡◌, ap, slice_get, option_map, Some, subst, sym}
 use Rattle.dt_job.specs.Contents.{Content}
 use Rattle.dt_job.specs.Drafts.{DraftView}
 use Rattle.dt_job.proofs.ContentFacts.{given_draft}

@@ -1,4 +1,4 @@
-use Rattle.std.proofs.Common.{◌≡◌, All, List, subst, sym, ap, ◌∙◌}
+use Rattle.std.proofs.Common.{All, List, subst, sym, ap}
 use Rattle.std.specs.List.{IsDistinct}
 use Rattle.std.specs.Str.{bytes_eq}
 use Rattle.dt_tensor.specs.Packed.{Packed}

@@ -1,5 +1,5 @@
-use Rattle.std.proofs.Common.{◌≡◌, ◌++◌, All, map}
-use Rattle.dt_job.specs.Contents.{names_of, tensor_of, tensors_of}
+use Rattle.std.proofs.Common.{◌≡◌, ◌++◌, All}
+use Rattle.dt_job.specs.Contents.{names_of, tensors_of}
 use Rattle.dt_job.specs.Jobs.{IsJobTensor}
 use Rattle.dt_job.proofs.draft.Draft.into_job.Given as goal
 
