@@ -1,11 +1,8 @@
 #!/bin/sh
 # How many instructions reading a job takes, at half of the greatest input and at the whole of it.
-# It wants valgrind, and crates/distal/out/distal as `rt ci` or `./distal` builds it.
 set -eu
 cd "$(dirname "$0")/.."
-program=crates/distal/out/distal
-folder=$(mktemp -d)
-trap 'rm -rf "$folder"' EXIT
+. bench/counting.sh
 
 # A job with this many tensors of 256,000 values: a data line of a million bytes for each but one, which is filled, and
 # 2,000 comments for each.
@@ -14,25 +11,19 @@ job() {
         print "distal 1"
         print "machine 1"
         for (t = 0; t < count; t++) {
-            print "tensor T" t " 512x500"
+            print "tensor big" t " 512x500"
             for (c = 0; c < 2000; c++) print "# a comment of the " t "th tensor"
-            if (t == 0) { print "fill T0 seed 7"; continue }
-            printf "data T%d", t
+            if (t == 0) { print "fill big0 seed 7"; continue }
+            printf "data big%d", t
             for (v = 0; v < 256000; v++) printf " %03d", v % 1000
             printf "\n"
         }
-        print "print T0"
+        print "print big0"
     }'
 }
 
-# The instructions of a whole run of a job.
-instructions() {
-    valgrind --tool=callgrind --callgrind-out-file=/dev/null "$program" run <"$1" 2>&1 >/dev/null |
-        sed -n 's/.*Collected : *//p'
-}
-
-# The seconds of a run of a job, without valgrind.
-seconds() {
+# The milliseconds of a run of a job, without valgrind.
+milliseconds() {
     start=$(date +%s%N)
     "$program" run <"$1" >/dev/null
     end=$(date +%s%N)
@@ -43,8 +34,8 @@ job 8 >"$folder/half"
 job 15 >"$folder/whole"
 half=$(instructions "$folder/half")
 whole=$(instructions "$folder/whole")
-half_time=$(seconds "$folder/half")
-whole_time=$(seconds "$folder/whole")
+half_time=$(milliseconds "$folder/half")
+whole_time=$(milliseconds "$folder/whole")
 half_size=$(wc -c <"$folder/half")
 whole_size=$(wc -c <"$folder/whole")
 awk -v hs="$half_size" -v ws="$whole_size" -v h="$half" -v w="$whole" -v ht="$half_time" -v wt="$whole_time" 'BEGIN {

@@ -1,12 +1,9 @@
 #!/bin/sh
 # How many instructions a statement takes that is as long as a line may be, with a new variable at each place: its tests
 # go over 70,000 and 140,000 different variables before it is refused as TooManyTerms.
-# It wants valgrind, and crates/distal/out/distal as `rt ci` or `./distal` builds it.
 set -eu
 cd "$(dirname "$0")/.."
-program=crates/distal/out/distal
-folder=$(mktemp -d)
-trap 'rm -rf "$folder"' EXIT
+. bench/counting.sh
 
 # A job whose statement has this many factors, each with four variables of its own.
 job() {
@@ -19,12 +16,6 @@ job() {
         for (f = 0; f < count; f++) printf "*e(v%x,w%x,x%x,y%x)", f, f, f, f
         printf "\n"
     }'
-}
-
-# The instructions of a whole run of a job.
-instructions() {
-    valgrind --tool=callgrind --callgrind-out-file=/dev/null "$program" run <"$1" 2>&1 >/dev/null |
-        sed -n 's/.*Collected : *//p'
 }
 
 job 17500 >"$folder/half"
