@@ -1,5 +1,6 @@
 pub mod FormSteps
 pub mod LawfulStmt
+pub mod LeftTensor
 pub mod NameFacts
 pub mod OccurrenceFacts
 pub mod PartFacts

@@ -1,7 +1,7 @@
 -- Lists of names: which names they have, without repeats, and at which places.
-use Rattle.std.proofs.Common.{◌≡◌, ℕ, zero, suc, ◌+◌, ◌<◌, ◌≤◌, take, List, [], ◌∷◌, ◌++◌, length, get_or, map, refl, ap, sym, ◌∙◌, arith, Bool, true, false, cond, not, ◌||◌, All, Option, Some, None, nat_eq, nat_le, inl, inr, length-append, slice_index}
+use Rattle.std.proofs.Common.{◌≡◌, ℕ, zero, suc, ◌+◌, ◌<◌, ◌≤◌, take, List, [], ◌∷◌, ◌++◌, length, get_or, map, refl, ap, sym, ◌∙◌, subst, arith, Bool, true, false, cond, not, ◌||◌, All, Option, Some, None, nat_eq, nat_le, inl, inr, length-append, slice_index}
 use Rattle.std.specs.Prelude.{filter, find, count_by}
-use Rattle.std.specs.List.{list_any, position_or_len}
+use Rattle.std.specs.List.{AllByRecursion, IsDistinct, list_any, position_or_len}
 use Rattle.std.specs.Str.{bytes_eq}
 use Rattle.std.proofs.lemmas.Bool.{or_parts, lt-ltb, leb-false, cases_lt}
 use Rattle.std.proofs.Math.Bool.{or-true}
@@ -11,6 +11,7 @@ use Rattle.std.proofs.lemmas.List.{append-nil, append_assoc, take_more, length-m
 use Rattle.std.proofs.lemmas.List.Elements.{filter-append, All-head, All-tail}
 use Rattle.std.proofs.lemmas.List.Folds.{list_any_at, list_any-append}
 use Rattle.std.proofs.lemmas.List.Sums.{sum_by-cons}
+use Rattle.std.proofs.lemmas.Map.Keys.{IsDistinct-cons}
 use Rattle.dt_base.specs.Ranges.{below}
 use Rattle.dt_index.specs.NameSets.{with_name}
 use Rattle.dt_index.specs.Resolve.{distinct, number_in}
@@ -226,6 +227,21 @@ without-differ x (y ∷ ys) h = differ_step x y ys (bytes_eq y x) refl h.0 (with
 pub distinct-differ : (xs : List (List ℕ)) → Differ (distinct xs)
 distinct-differ [] = tt
 distinct-differ (x ∷ xs) = (without-lacks x (distinct xs), without-differ x (distinct xs) (distinct-differ xs))
+
+all_other : (x : List ℕ) (ys : List (List ℕ)) → has ys x ≡ false → AllByRecursion (λ y. bytes_eq x y ≡ false) ys
+all_other x [] h = tt
+all_other x (y ∷ ys) h =
+    let parts : (bytes_eq y x ≡ false) × (has ys x ≡ false) = or_parts (bytes_eq y x) (has ys x) h in
+    (bytes_eq-swap x y ∙ parts.0, all_other x ys parts.1)
+
+differ-IsDistinct : (xs : List (List ℕ)) → Differ xs → IsDistinct bytes_eq xs
+unfolding IsDistinct
+differ-IsDistinct [] h = tt
+differ-IsDistinct (x ∷ xs) h = IsDistinct-cons bytes_eq x xs (all_other x xs h.0) (differ-IsDistinct xs h.1)
+
+-- names without those that stood before differ
+pub distinct-IsDistinct : (xs names : List (List ℕ)) → names ≡ distinct xs → IsDistinct bytes_eq names
+distinct-IsDistinct xs names e = subst (λ (ys : List (List ℕ)). IsDistinct bytes_eq ys) (sym e) (differ-IsDistinct (distinct xs) (distinct-differ xs))
 
 place_same_step : (x u v : List ℕ) (xs : List (List ℕ)) → u ≡ v → place (x ∷ xs) u ≡ place (x ∷ xs) v
 place_same_step x u v xs e = ap (λ (w : List ℕ). place (x ∷ xs) w) e

@@ -13,7 +13,8 @@ use Rattle.dt_index.specs.Resolve.{clashes, extent_of, extent_clash, named_exten
 use Rattle.dt_index.specs.declared.form.NamedAccess.{NamedAccess}
 use Rattle.dt_index.proofs.NameFacts.{bytes_eq-refl, has, passed_name}
 
-found_step : {X : Type 0} (x : X) (b : Bool) (rest : Option X) → cond b (Some x) rest ≡ None → (b ≡ false) × (rest ≡ None)
+-- a search that finds nothing passed its first element, and finds nothing behind it
+pub found_step : {X : Type 0} (x : X) (b : Bool) (rest : Option X) → cond b (Some x) rest ≡ None → (b ≡ false) × (rest ≡ None)
 found_step x true rest h = cc
 found_step x false rest h = (refl, h)
 

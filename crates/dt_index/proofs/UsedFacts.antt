@@ -12,13 +12,15 @@ use Rattle.std.proofs.lemmas.List.Sums.{AllPass-from_list_all}
 use Rattle.dt_base.specs.Ranges.{below}
 use Rattle.dt_text.proofs.WordLemmas.{bool_cases}
 use Rattle.dt_model.specs.Stmts.{AreEven, AreUsed, factor_vars, term_vars, stmt_vars}
+use Rattle.dt_model.specs.declared.stmt.Stmt.{Stmt}
 use Rattle.dt_index.specs.Known.{Known}
-use Rattle.dt_index.specs.Resolve.{IsSmall, access_in, accesses_of, right_accesses, term_accesses, extent_of, factor_has, has_few_terms, is_uneven, lhs_repeats, number_in, numbered_factor, numbered_term, occurrences, stmt_of, term_has, uneven_reduction, variables_of}
+use Rattle.dt_index.specs.Resolve.{IsSmall, access_in, accesses_of, right_accesses, term_accesses, extent_of, factor_has, has_few_terms, is_uneven, lhs_repeats, number_in, numbered_factor, numbered_term, occurrences, stmt_by, stmt_of, term_has, uneven_reduction, variables_of}
 use Rattle.dt_index.specs.declared.form.Form.{Form}
 use Rattle.dt_index.specs.declared.form.NamedAccess.{NamedAccess}
 use Rattle.dt_index.specs.declared.form.NamedFactor.{NamedFactor}
 use Rattle.dt_index.specs.declared.form.NamedFactor.TheVariants as named
 use Rattle.dt_index.specs.declared.form.NamedTerm.{NamedTerm}
+use Rattle.dt_index.specs.declared.occurrence_list.Occurrence.{Occurrence}
 use Rattle.dt_index.proofs.NameFacts.{has, place, has-distinct, has-at, length-below, get_or-below, distinct-differ, number-at, number_in-place, place-in-front, numbers-have}
 use Rattle.dt_index.proofs.OccurrenceFacts.{any_at, find_none, option_map-none}
 use Rattle.dt_index.proofs.LawfulStmt.{left_first}
@@ -63,6 +65,10 @@ all_below p n h k d l = (let inside : k < n = omega (arith, length-below n) in s
 
 extent_count : (tensors : List Known) (f : Form) → length (map (extent_of (occurrences tensors f)) (variables_of f)) ≡ length (variables_of f)
 extent_count tensors f = length-map (variables_of f) (extent_of (occurrences tensors f))
+
+-- each of the names by which variables are numbered has an extent
+pub extents_named : (tensors : List Known) (names : List (List ℕ)) (os : List Occurrence) (f : Form) (s : Stmt) → s ≡ stmt_by tensors names os f → length names ≡ length s.extents
+extents_named tensors names os f s e = sym (length-map names (extent_of os)) ∙ ap (λ (t : Stmt). length t.extents) (sym e)
 
 used_at : (tensors : List Known) (f : Form) (k : ℕ) → k < length (variables_of f) → list_any (nat_eq k) (stmt_vars (stmt_of tensors f)) ≡ true
 used_at tensors f k l =

@@ -4,5 +4,6 @@ pub mod NameSets
 pub mod NextPart
 pub mod NextVar
 pub mod Printed
+pub mod Reads
 pub mod Resolve
 pub mod Symbols

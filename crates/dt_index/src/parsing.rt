@@ -1,9 +1,12 @@
 //! A statement from its text.
 
-ghost use Rattle.std.specs.Prelude.{◌≡◌, IfOk};
+ghost use Rattle.std.specs.Prelude.{◌≡◌, true, false, length, IfOk};
+ghost use Rattle.std.specs.List.{IsDistinct};
+ghost use Rattle.std.specs.Str.{bytes_eq};
 ghost use Rattle.dt_model.specs.Steps.{Gives};
 ghost use Rattle.dt_model.specs.Stmts.{AreEven, AreUsed, IsStmt};
-ghost use Rattle.dt_index.specs.Known.{shapes_of_known};
+ghost use Rattle.dt_index.specs.Known.{is_dense_at, shapes_of_known};
+ghost use Rattle.dt_index.specs.Reads.{right_side_reads};
 ghost use Rattle.dt_index.specs.Resolve.{IsSmall, parsed_of};
 
 use crate::form_reading::read_form;
@@ -29,6 +32,10 @@ pub fn parse_stmt<L: Lookup>(
     ensures used { IfOk result (λ r. AreUsed r.0) }
     ensures even { IfOk result (λ r. AreEven r.0) }
     ensures small { IfOk result (λ r. IsSmall r.0) }
+    ensures named { IfOk result (λ r. length r.1 ≡ length r.0.extents) }
+    ensures differ { IfOk result (λ r. IsDistinct bytes_eq r.1) }
+    ensures dense { IfOk result (λ r. is_dense_at (L.tensors names.now) r.0.lhs.tensor ≡ true) }
+    ensures unread { IfOk result (λ r. right_side_reads r.0.lhs.tensor r.0 ≡ false) }
 {
     let symbols = read_symbols(alloc, text)?;
     let form = read_form(alloc, symbols.as_slice())?;

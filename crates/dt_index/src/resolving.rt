@@ -1,9 +1,12 @@
 //! What a statement says of the tensors that are known.
 
-ghost use Rattle.std.specs.Prelude.{◌≡◌, IfOk};
+ghost use Rattle.std.specs.Prelude.{◌≡◌, true, false, length, IfOk};
+ghost use Rattle.std.specs.List.{IsDistinct};
+ghost use Rattle.std.specs.Str.{bytes_eq};
 ghost use Rattle.dt_model.specs.Steps.{Gives};
 ghost use Rattle.dt_model.specs.Stmts.{AreEven, AreUsed, IsStmt};
-ghost use Rattle.dt_index.specs.Known.{shapes_of_known};
+ghost use Rattle.dt_index.specs.Known.{is_dense_at, shapes_of_known};
+ghost use Rattle.dt_index.specs.Reads.{right_side_reads};
 ghost use Rattle.dt_index.specs.Resolve.{Resolved, IsSmall, resolved_of};
 
 use crate::access_list::{all_accesses, right_accesses};
@@ -32,6 +35,10 @@ pub fn resolve<L: Lookup>(alloc: Global, form: &Form, names: &L) -> Result<(Stmt
     ensures used { IfOk result (λ r. AreUsed r.0) }
     ensures even { IfOk result (λ r. AreEven r.0) }
     ensures small { IfOk result (λ r. IsSmall r.0) }
+    ensures named { IfOk result (λ r. length r.1 ≡ length r.0.extents) }
+    ensures differ { IfOk result (λ r. IsDistinct bytes_eq r.1) }
+    ensures dense { IfOk result (λ r. is_dense_at (L.tensors names.now) r.0.lhs.tensor ≡ true) }
+    ensures unread { IfOk result (λ r. right_side_reads r.0.lhs.tensor r.0 ≡ false) }
 {
     if !has_good_literals(form) {
         return Err(LineEnd::Refused(Cause::BadNumber));

@@ -181,7 +181,7 @@ fn other_texts_are_no_statements(rt: HostRuntime) -> Result<(), Fail> {
 #[test]
 fn the_first_cause_comes(rt: HostRuntime) -> Result<(), Fail> {
     let names = zeros(rt.alloc(), true)?;
-    let cases: [(&[u8], Answer); 24] = [
+    let cases: [(&[u8], Answer); 25] = [
         (b"s = 18446744073709551616", Answer::BadNumber),
         (b"s = 1 - 000000000000000000001", Answer::BadNumber),
         (b"Z = 18446744073709551616 * Y", Answer::BadNumber),
@@ -224,6 +224,7 @@ fn the_first_cause_comes(rt: HostRuntime) -> Result<(), Fail> {
             b"s = E(a,b,c,d)*E(e,f,g,h)*E(i,a,b,c)",
             Answer::TooManyLoops,
         ),
+        (b"B(i,j) = E(a,b,c,d)*E(e,f,g,h)", Answer::TooManyLoops),
     ];
     for (text, wanted) in cases {
         assert_eq!(rt; answer_to(rt.alloc(), text, &names), wanted);
@@ -231,12 +232,213 @@ fn the_first_cause_comes(rt: HostRuntime) -> Result<(), Fail> {
     Ok(())
 }
 
+/// For each two causes two texts: the offence of the cause that is tested first stands left of the other one, and right
+/// of it.
 #[test]
-fn the_left_tensor_is_dense(rt: HostRuntime) -> Result<(), Fail> {
+fn the_earlier_test_answers_in_both_orders(rt: HostRuntime) -> Result<(), Fail> {
     let names = zeros(rt.alloc(), false)?;
-    let cases: [(&[u8], Answer); 3] = [
+    // A text without a form has no other offence: beside Syntax stands what would be one. A cause that names a variable
+    // stands where that variable first stands.
+    let cases: [(&[u8], &[u8], Answer); 41] = [
+        (
+            b"s = (1) * 18446744073709551616",
+            b"s = 18446744073709551616 * (1)",
+            Answer::Syntax,
+        ),
+        (b"s = (1) + Y", b"s = Y + (1)", Answer::Syntax),
+        (b"s = (1) + B", b"s = B + (1)", Answer::Syntax),
+        (b"1 E(i,i,j,k) = 1", b"E(i,i,j,k) = 1 2", Answer::Syntax),
+        (b"s = (1) + s", b"s = s + (1)", Answer::Syntax),
+        (b"1 A(i,j) = 1", b"A(i,j) = 1 2", Answer::Syntax),
+        (b"s = (1) * B(k,k)", b"s = B(k,k) * (1)", Answer::Syntax),
+        (b"s = (1) + B(i,k)", b"s = B(i,k) + (1)", Answer::Syntax),
+        (
+            b"s = (1) + 1*1*1*1*1*1*1*1*1",
+            b"s = 1*1*1*1*1*1*1*1*1 + (1)",
+            Answer::Syntax,
+        ),
+        (
+            b"s = (1) * E(a,b,c,d)*E(e,f,g,h)*E(i,a,b,c)",
+            b"s = E(a,b,c,d)*E(e,f,g,h)*E(i,a,b,c) * (1)",
+            Answer::Syntax,
+        ),
+        (
+            b"s = 18446744073709551616 * Y",
+            b"s = Y * 18446744073709551616",
+            Answer::BadNumber,
+        ),
+        (
+            b"s = 18446744073709551616 * B",
+            b"s = B * 18446744073709551616",
+            Answer::BadNumber,
+        ),
+        (
+            b"s = 18446744073709551616 * s",
+            b"s = s * 18446744073709551616",
+            Answer::BadNumber,
+        ),
+        (
+            b"s = 18446744073709551616 * B(k,k)",
+            b"s = B(k,k) * 18446744073709551616",
+            Answer::BadNumber,
+        ),
+        (
+            b"s = 18446744073709551616 + B(i,k)",
+            b"s = B(i,k) + 18446744073709551616",
+            Answer::BadNumber,
+        ),
+        (
+            b"s = 18446744073709551616 + 1*1*1*1*1*1*1*1*1",
+            b"s = 1*1*1*1*1*1*1*1*1 + 18446744073709551616",
+            Answer::BadNumber,
+        ),
+        (
+            b"s = 18446744073709551616 * E(a,b,c,d)*E(e,f,g,h)*E(i,a,b,c)",
+            b"s = E(a,b,c,d)*E(e,f,g,h)*E(i,a,b,c) * 18446744073709551616",
+            Answer::BadNumber,
+        ),
+        (b"s = Y * B", b"s = B * Y", Answer::UnknownTensor(b'Y')),
+        (
+            b"Y(i,i) = 1",
+            b"E(i,i,j,k) = Y",
+            Answer::UnknownTensor(b'Y'),
+        ),
+        (b"s = Y * s", b"s = s * Y", Answer::UnknownTensor(b'Y')),
+        (
+            b"s = Y * B(k,k)",
+            b"s = B(k,k) * Y",
+            Answer::UnknownTensor(b'Y'),
+        ),
+        (
+            b"s = Y + B(i,k)",
+            b"s = B(i,k) + Y",
+            Answer::UnknownTensor(b'Y'),
+        ),
+        (
+            b"s = Y + 1*1*1*1*1*1*1*1*1",
+            b"s = 1*1*1*1*1*1*1*1*1 + Y",
+            Answer::UnknownTensor(b'Y'),
+        ),
+        (
+            b"s = Y * E(a,b,c,d)*E(e,f,g,h)*E(i,a,b,c)",
+            b"s = E(a,b,c,d)*E(e,f,g,h)*E(i,a,b,c) * Y",
+            Answer::UnknownTensor(b'Y'),
+        ),
+        (
+            b"s(i,i) = 1",
+            b"E(i,i,j,k) = s(i)",
+            Answer::WrongOrder(b's'),
+        ),
+        (b"s = B * s", b"s = s * B", Answer::WrongOrder(b'B')),
+        (
+            b"s = B * C(k,k)",
+            b"s = C(k,k) * B",
+            Answer::WrongOrder(b'B'),
+        ),
+        (
+            b"s = B + C(k,j)",
+            b"s = C(k,j) + B",
+            Answer::WrongOrder(b'B'),
+        ),
+        (
+            b"s = B + 1*1*1*1*1*1*1*1*1",
+            b"s = 1*1*1*1*1*1*1*1*1 + B",
+            Answer::WrongOrder(b'B'),
+        ),
+        (
+            b"s = B * E(a,b,c,d)*E(e,f,g,h)*E(i,a,b,c)",
+            b"s = E(a,b,c,d)*E(e,f,g,h)*E(i,a,b,c) * B",
+            Answer::WrongOrder(b'B'),
+        ),
+        (
+            b"E(i,i,j,k) = B(l,l)",
+            b"E(j,i,i,k) = B(j,l)",
+            Answer::LhsRepeats(b'i'),
+        ),
+        (
+            b"s = s * B(k,k)",
+            b"s = B(k,k) * s",
+            Answer::OutputRead(b's'),
+        ),
+        (
+            b"s = s + B(i,k)",
+            b"s = B(i,k) + s",
+            Answer::OutputRead(b's'),
+        ),
+        (
+            b"s = s + 1*1*1*1*1*1*1*1*1",
+            b"s = 1*1*1*1*1*1*1*1*1 + s",
+            Answer::OutputRead(b's'),
+        ),
+        (
+            b"s = s * E(a,b,c,d)*E(e,f,g,h)*E(i,a,b,c)",
+            b"s = E(a,b,c,d)*E(e,f,g,h)*E(i,a,b,c) * s",
+            Answer::OutputRead(b's'),
+        ),
+        (
+            b"s = B(k,k) + C(k,l)",
+            b"s = C(l,k) + B(k,k)",
+            Answer::ExtentClash(b'k'),
+        ),
+        (
+            b"s = B(k,k) * 1*1*1*1*1*1*1*1*1",
+            b"s = 1*1*1*1*1*1*1*1*1 * B(k,k)",
+            Answer::ExtentClash(b'k'),
+        ),
+        (
+            b"s = B(k,k) * E(a,b,c,d)*E(e,f,g,h)*E(i,a,b,c)",
+            b"s = E(a,b,c,d)*E(e,f,g,h)*E(i,a,b,c) * B(k,k)",
+            Answer::ExtentClash(b'k'),
+        ),
+        (
+            b"s = B(i,k) + 1*1*1*1*1*1*1*1*1",
+            b"s = 1*1*1*1*1*1*1*1*1 + B(i,k)",
+            Answer::UnevenReduction(b'i'),
+        ),
+        (
+            b"s = B(k,i)*E(a,b,c,d)*E(e,f,g,h) + E(a,b,c,d)*E(e,f,g,h)",
+            b"s = E(a,b,c,d)*E(e,f,g,h)*B(i,k) + E(a,b,c,d)*E(e,f,g,h)*B(i,l)",
+            Answer::UnevenReduction(b'k'),
+        ),
+        (
+            b"s = 1*1*1*1*1*1*1*1*1*E(a,b,c,d)*E(e,f,g,h)*E(i,a,b,c)",
+            b"s = E(a,b,c,d)*E(e,f,g,h)*E(i,a,b,c)*1*1*1*1*1*1",
+            Answer::TooManyTerms,
+        ),
+    ];
+    for (left, right, wanted) in cases {
+        assert_eq!(rt; answer_to(rt.alloc(), left, &names), wanted);
+        assert_eq!(rt; answer_to(rt.alloc(), right, &names), wanted);
+    }
+    Ok(())
+}
+
+/// The pairs of causes that have one order.
+#[test]
+fn the_earlier_test_answers_in_one_order(rt: HostRuntime) -> Result<(), Fail> {
+    let names = zeros(rt.alloc(), false)?;
+    // LhsRepeats and OutputFormat stand on the left side only; literals, readings of the left tensor, reduction
+    // variables, terms and a ninth variable on the right side only. An unknown left tensor has no levels.
+    let cases: [(&[u8], Answer); 17] = [
+        (b"A(i,j) = 1", Answer::OutputFormat(b'A')),
+        (b"A(i) = 1", Answer::WrongOrder(b'A')),
+        (b"E(i,i,j,k) = 18446744073709551616", Answer::BadNumber),
+        (b"A(i,j) = 18446744073709551616", Answer::BadNumber),
+        (b"A(i,j) = Y", Answer::UnknownTensor(b'Y')),
+        (b"A(i,j) = B", Answer::WrongOrder(b'B')),
+        (b"E(i,i,j,k) = E(i,i,j,k)", Answer::LhsRepeats(b'i')),
+        (b"A(i,i) = 1", Answer::LhsRepeats(b'i')),
+        (b"E(i,i,j,k) = B(l,m) + 1", Answer::LhsRepeats(b'i')),
+        (b"E(i,i,j,k) = 1*1*1*1*1*1*1*1*1", Answer::LhsRepeats(b'i')),
+        (b"B(i,i) = E(a,b,c,d)*E(e,f,g,h)", Answer::LhsRepeats(b'i')),
         (b"A(i,j) = A(i,j)", Answer::OutputRead(b'A')),
         (b"A(i,j) = B(j,i)", Answer::OutputFormat(b'A')),
+        (b"A(i,j) = B(i,k) * C(k,j) + 1", Answer::OutputFormat(b'A')),
+        (b"A(i,j) = 1*1*1*1*1*1*1*1*1", Answer::OutputFormat(b'A')),
+        (
+            b"A(i,j) = E(a,b,c,d)*E(e,f,g,h)",
+            Answer::OutputFormat(b'A'),
+        ),
         (b"s = A(i,j)", Answer::Stmt),
     ];
     for (text, wanted) in cases {

@@ -3,12 +3,14 @@ use Rattle.std.specs.List.{flat_map}
 use Rattle.dt_model.specs.Stmts.{IsStmt, AreUsed, AreEven}
 use Rattle.dt_model.specs.declared.stmt.Stmt.{Stmt}
 use Rattle.dt_index.specs.Known.{shapes_of_known}
-use Rattle.dt_index.specs.Resolve.{IsSmall, access_occurrences, accesses_of, distinct, extent_clash, lhs_repeats, named_extents, occurrences, stmt_by, stmt_of, uneven_reduction, unknown_tensor, variables_of, wrong_order}
+use Rattle.dt_index.specs.Resolve.{IsSmall, access_occurrences, accesses_of, distinct, extent_clash, lhs_repeats, named_extents, occurrences, output_read, stmt_by, stmt_of, uneven_reduction, unknown_tensor, variables_of, wrong_order}
 use Rattle.dt_index.specs.declared.form.Form.{Form}
 use Rattle.dt_index.specs.declared.form.NamedAccess.{NamedAccess}
 use Rattle.dt_index.specs.declared.occurrence_list.Occurrence.{Occurrence}
 use Rattle.dt_index.proofs.LawfulStmt.{lawful_stmt, none_left}
-use Rattle.dt_index.proofs.UsedFacts.{used_stmt, even_stmt, small_stmt}
+use Rattle.dt_index.proofs.LeftTensor.{dense_left, unread_left}
+use Rattle.dt_index.proofs.NameFacts.{distinct-IsDistinct}
+use Rattle.dt_index.proofs.UsedFacts.{used_stmt, even_stmt, extents_named, small_stmt}
 use Rattle.dt_index.proofs.resolving.resolve.Goals as goal
 
 pub returns-clause-lawful : goal.returns-clause-lawful
@@ -74,3 +76,25 @@ returns-clause-small g c =
     c.in_ok-stmt.ensures ∙ ap (λ (vs : List (List ℕ)). stmt_by tensors vs c.as_slice-12.result.now f) (c.as_slice-11.ensures ∙ variables)
     ∙ ap (λ (os : List Occurrence). stmt_by tensors (variables_of f) os f) (c.as_slice-12.ensures ∙ standing) in
     subst (λ (s : Stmt). IsSmall s) (sym same) (small_stmt tensors f (sym c.has_few_terms.ensures ∙ c.if-not-has_few_terms.false))
+
+pub returns-clause-named : goal.returns-clause-named
+returns-clause-named g c =
+    let tensors = g.L.Lookup.tensors c.args.names.now in
+    let named : length c.as_slice-11.result.now ≡ length c.in_ok-stmt.stmt.extents = extents_named tensors c.as_slice-11.result.now c.as_slice-12.result.now c.args.form.now c.in_ok-stmt.stmt c.in_ok-stmt.ensures in
+    subst (λ (vs : List (List ℕ)). length vs ≡ length c.in_ok-stmt.stmt.extents) c.as_slice-11.ensures named
+
+pub returns-clause-differ : goal.returns-clause-differ
+returns-clause-differ g c = distinct-IsDistinct (flat_map (λ a. a.vars) (map (λ a. a.now) c.as_slice-5.result.now)) c.in_ok-variables.variables c.in_ok-variables.ensures
+
+pub returns-clause-dense : goal.returns-clause-dense
+returns-clause-dense g c =
+    let tensors = g.L.Lookup.tensors c.args.names.now in
+    dense_left tensors c.as_slice-11.result.now c.as_slice-12.result.now c.args.form.now c.in_ok-stmt.stmt c.in_ok-stmt.ensures (sym c.has_dense_output.ensures ∙ c.if-not-has_dense_output.false)
+
+pub returns-clause-unread : goal.returns-clause-unread
+returns-clause-unread g c =
+    let tensors = g.L.Lookup.tensors c.args.names.now in
+    let f : Form = c.args.form.now in
+    let unknown : unknown_tensor tensors f ≡ None = none_left c.unknown_tensor.result (unknown_tensor tensors f) c.unknown_tensor.ensures c.in_default.not-Some in
+    let read : output_read f ≡ None = none_left c.output_read.result (output_read f) c.output_read.ensures c.in_default-output_read.not-Some in
+    unread_left tensors c.as_slice-11.result.now c.as_slice-12.result.now f c.in_ok-stmt.stmt c.in_ok-stmt.ensures unknown read
