@@ -1,52 +1,14 @@
 -- Values under environments and names that agree where variables read them.
-use Rattle.std.proofs.Common.{◌≡◌, ℕ, Bool, true, false, ◌||◌, List, [], ◌∷◌, sum_by, refl, sym, ap, ◌∙◌, subst, arith}
+use Rattle.std.proofs.Common.{◌≡◌, ℕ, Bool, true, false, ◌||◌, List, [], ◌∷◌, refl, sym, ap, ◌∙◌, subst}
 use Rattle.std.specs.Prelude.{if◌then◌else◌, MatchBool, nat_eq}
 use Rattle.std.specs.List.{AllByRecursion}
 use Rattle.std.proofs.lemmas.Bool.{eqb-true}
-use Rattle.std.proofs.lemmas.List.Sums.{sum_by-cons}
 use Rattle.dt_nest.specs.declared.loops.Pair.{Pair}
-use Rattle.dt_nest.specs.declared.derivations.Derive.{Derive}
-use Rattle.dt_nest.specs.declared.derivations.Derive.TheVariants.{Split, Quotient, Rest, Rotate, Pos}
 use Rattle.dt_nest.specs.declared.derivations.Derived.{Derived}
 use Rattle.dt_nest.specs.Each.{all_map}
+use Rattle.dt_nest.specs.Agree.{derive_agree}
 use Rattle.dt_nest.specs.Meaning.{World, Env, derive_of, known, renamed, under}
 use Rattle.dt_nest.specs.Lawful.{sources, is_replaced, IsPast, AreOrdered, Loops, Follows}
-
-sum_by_agree : (P : ℕ → Type 0) (f g : ℕ → ℕ) → ((u : ℕ) → P u → f u ≡ g u) → (xs : List ℕ) → AllByRecursion P xs → sum_by f xs ≡ sum_by g xs
-sum_by_agree P f g h [] e = refl
-sum_by_agree P f g h (x ∷ xs) e =
-    let a = h x e.0 in let b = sum_by_agree P f g h xs e.1 in
-    omega (arith, sum_by-cons f x xs, sum_by-cons g x xs, a, b)
-
-pub derive_agree : (w : World) (P : ℕ → Type 0) (f g : ℕ → ℕ) → ((u : ℕ) → P u → f u ≡ g u) → (d : Derive) → AllByRecursion P (sources d) → derive_of w d f ≡ derive_of w d g
-derive_agree w P f g h (Split outer inner factor) e = let a = h outer e.0 in let b = h inner e.1.0 in cc
-derive_agree w P f g h (Quotient fused by) e = let a = h fused e.0 in cc
-derive_agree w P f g h (Rest fused by) e = let a = h fused e.0 in cc
-derive_agree w P f g h (Rotate base by extent) e = let a = h base e.0 in let b = sum_by_agree P f g h by e.1 in cc
-derive_agree w P f g h (Pos tensor level base) e = let a = h base e.0 in cc
-
--- what follows from some loops has one value under environments that agree on them
-pub known_agree : (w : World) (ds : List Derived) (around : Loops) (name e1 e2 : Env) → ((u : ℕ) → around u ≡ true → e1 u ≡ e2 u) → (v : ℕ) → Follows ds around name v → known w ds name e1 v ≡ known w ds name e2 v
-unfolding known
-known_agree w [] around name e1 e2 h v f = h v f
-known_agree w (d ∷ ds) around name e1 e2 h v f = go (nat_eq v d.var) (λ u k. known_agree w ds around name e1 e2 h u k) f
-  where
-    go : (b : Bool) → ((u : ℕ) → Follows ds around name u → known w ds name e1 u ≡ known w ds name e2 u)
-        → MatchBool b (AllByRecursion (λ u. Follows ds around name (name u)) (sources d.how)) (Follows ds around name v)
-        → (if b then derive_of w d.how (λ u. known w ds name e1 (name u)) else known w ds name e1 v) ≡ (if b then derive_of w d.how (λ u. known w ds name e2 (name u)) else known w ds name e2 v)
-    go true r f = derive_agree w (λ u. Follows ds around name (name u)) (λ u. known w ds name e1 (name u)) (λ u. known w ds name e2 (name u)) (λ u k. r (name u) k) d.how f
-    go false r f = r v f
-
--- what follows from some loops follows from more
-pub follows_more : (ds : List Derived) (around more : Loops) (name : Env) → ((u : ℕ) → around u ≡ true → more u ≡ true) → (v : ℕ) → Follows ds around name v → Follows ds more name v
-follows_more [] around more name h v f = h v f
-follows_more (d ∷ ds) around more name h v f = go (nat_eq v d.var) (λ u k. follows_more ds around more name h u k) f
-  where
-    go : (b : Bool) → ((u : ℕ) → Follows ds around name u → Follows ds more name u)
-        → MatchBool b (AllByRecursion (λ u. Follows ds around name (name u)) (sources d.how)) (Follows ds around name v)
-        → MatchBool b (AllByRecursion (λ u. Follows ds more name (name u)) (sources d.how)) (Follows ds more name v)
-    go true r f = all_map (λ u. Follows ds around name (name u)) (λ u. Follows ds more name (name u)) (λ u k. r (name u) k) (sources d.how) f
-    go false r f = r v f
 
 -- what was not replaced follows as a loop alone
 follows_plain : (ds : List Derived) (around : Loops) (name : Env) (v : ℕ) → is_replaced ds v ≡ false → Follows ds around name v → around v ≡ true

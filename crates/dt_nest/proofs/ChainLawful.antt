@@ -11,6 +11,7 @@ use Rattle.dt_nest.specs.declared.loops.Kernel.TheVariants.{Plain}
 use Rattle.dt_nest.specs.declared.parts.Work.{Work}
 use Rattle.dt_nest.specs.Each.{all_map}
 use Rattle.dt_nest.specs.Tree.{Leaf, loop_count, leaf_count, times, is_kernel_leaf, read_accesses, accesses_of}
+use Rattle.dt_nest.specs.Outputs.{WritesWorks}
 use Rattle.dt_nest.specs.Schedule.{Schedule}
 use Rattle.dt_nest.specs.Lawful.{AccessBelow, IsNamed, AreLoops, Loops, also, AllFollow, HaveGuards, IsSubstituted, HaveKernels, IsOneOf, WorksStand, WorkAccess, IsLawful}
 use Rattle.dt_nest.specs.Chain.{chain, stmt_schedule, IsAccessOf, IsSchedulable}
@@ -112,6 +113,10 @@ works_chain : (n v : ℕ) (ns : List ℕ) (lhs : Access) (terms : List Term) →
 works_chain n v [] lhs terms all = (all.0, all.1)
 works_chain n v (m ∷ ns) lhs terms all = works_chain n (suc v) ns lhs terms all
 
+written_chain : (n v : ℕ) (ns : List ℕ) (lhs : Access) (terms : List Term) → WritesWorks n (chain v ns (Leaf lhs terms [] Plain))
+written_chain n v [] lhs terms = tt
+written_chain n v (m ∷ ns) lhs terms = written_chain n (suc v) ns lhs terms
+
 -- without a workspace no access is one of a workspace
 no_works : (s : Schedule) → s.works ≡ [] → (accesses : List Access) → AllByRecursion (WorkAccess s) accesses
 no_works s e [] = tt
@@ -146,6 +151,7 @@ stmt_lawful s vars tensors h = record {
   works = record {
     once = λ w lt. absurd (omega arith);
     leaves = leaf_count-chain 0 s.extents s.lhs s.terms;
+    written = written_chain (length tensors) 0 s.extents s.lhs s.terms;
     stand = works_chain (length tensors) 0 s.extents s.lhs s.terms (all_map (IsAccessOf (length s.extents) (length tensors)) (IsOneOf (length tensors) []) (one_of (length s.extents) (length tensors)) (s.lhs ∷ read_accesses s.terms) h.accesses);
     small = tt;
     accesses = no_works (stmt_schedule s vars tensors) refl (accesses_of (chain 0 s.extents (Leaf s.lhs s.terms [] Plain)));

@@ -1,5 +1,6 @@
 -- Values of variables that are inside, and what is known of the others.
 use Rattle.std.proofs.Common.{◌≡◌, ℕ, ◌+◌, ◌*◌, ◌/◌, ◌%◌, ◌≤◌, Bool, true, false, List, [], ◌∷◌, Option, Some, None, option_map, sum_by, refl, sym, ap, ◌∙◌, subst, arith}
+use Rattle.std.specs.Prelude.{max}
 use Rattle.std.specs.Prelude.{if◌then◌else◌, MatchBool, nat_eq, nat_lt}
 use Rattle.std.specs.List.{AllByRecursion, list_any}
 use Rattle.std.proofs.lemmas.Bool.{eqb-true, eq-eqb, ne_eqb, ltb-false}
@@ -58,9 +59,9 @@ derived_known w v (Split outer inner factor) val f h x e =
 derived_known w v (Quotient fused by) val f h x e = let m = mapped_some (λ n. n / by) (val fused) x e in ap (λ (n : ℕ). n / by) (h fused m.0 m.1) ∙ m.2
 derived_known w v (Rest fused by) val f h x e = let m = mapped_some (λ n. n % by) (val fused) x e in ap (λ (n : ℕ). n % by) (h fused m.0 m.1) ∙ m.2
 derived_known w v (Rotate base by extent) val f h x e =
-    let m = mapped_some (λ n. n % extent) (sum_inside val (val base) by) x e in
+    let m = mapped_some (λ n. n % max extent 1) (sum_inside val (val base) by) x e in
     let r = sum_some val f h by (val base) m.0 m.1 in
-    ap (λ (n : ℕ). (n + sum_by f by) % extent) (h base r.0 r.1) ∙ ap (λ (n : ℕ). n % extent) r.2 ∙ m.2
+    ap (λ (n : ℕ). (n + sum_by f by) % max extent 1) (h base r.0 r.1) ∙ ap (λ (n : ℕ). n % max extent 1) r.2 ∙ m.2
 derived_known w v (Pos tensor level base) val f h x e = let m = mapped_some (λ n. w.coord tensor level n) (val base) x e in ap (λ (n : ℕ). w.coord tensor level n) (h base m.0 m.1) ∙ m.2
 
 -- a value that is inside is the variable's
@@ -103,7 +104,7 @@ derived_none w v (Split outer inner factor) val f P R out h past all e = go (val
 derived_none w v (Quotient fused by) val f P R out h past all e = out fused all.0 (mapped_none (λ n. n / by) (val fused) e)
 derived_none w v (Rest fused by) val f P R out h past all e = out fused all.0 (mapped_none (λ n. n % by) (val fused) e)
 derived_none w v (Rotate base by extent) val f P R out h past all e =
-    none_source P R val out by (val base) all.1 (mapped_none (λ n. n % extent) (sum_inside val (val base) by) e) (λ k. out base all.0 k)
+    none_source P R val out by (val base) all.1 (mapped_none (λ n. n % max extent 1) (sum_inside val (val base) by) e) (λ k. out base all.0 k)
 derived_none w v (Pos tensor level base) val f P R out h past all e = out base all.0 (mapped_none (λ n. w.coord tensor level n) (val base) e)
 
 split_apart : (v z : ℕ) (ds : List Derived) → IsPast v ds → IsSplitVar ds z → nat_eq z v ≡ false

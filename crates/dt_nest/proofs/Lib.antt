@@ -12,3 +12,11 @@ pub mod Prefixes
 pub mod Known
 pub mod Agreement
 pub mod Pruned
+pub mod OwnSlots
+pub mod Holding
+pub mod Journeys
+pub mod LeafFacts
+pub mod RunFacts
+pub mod Congruence
+pub mod Additions
+pub mod RootApart

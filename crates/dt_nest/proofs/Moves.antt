@@ -15,7 +15,8 @@ use Rattle.dt_nest.specs.Visits.{Item, IsReset, Tests, valid_values, values_on, 
 use Rattle.dt_nest.specs.Odometer.{cleared, AreZero, Lacks, HaveSlots, works_at, leaf_item, guards_of, item_at, step_of, end_on, after, IsAt, Reaches, Finds, Enters, ReachesFrom, FindsFrom, Steps}
 use Rattle.dt_nest.proofs.Slots.{zero_set, cleared_other, zero_kept, zero_before, zero_cleared, cleared_zero}
 
-range-add : (a k m : ℕ) → range_with_len a (k + m) ≡ range_with_len a k ++ range_with_len (a + k) m
+-- a longer range in two parts
+pub range-add : (a k m : ℕ) → range_with_len a (k + m) ≡ range_with_len a k ++ range_with_len (a + k) m
 range-add a zero m = let e : 0 + m ≡ m = omega arith in let g : a + 0 ≡ a = omega arith in ap (range_with_len a) e ∙ sym (ap (λ (b : ℕ). range_with_len b m) g)
 range-add a (suc k) m =
     let e : suc k + m ≡ suc (k + m) = omega arith in let g : a + 1 + k ≡ a + suc k = omega arith in

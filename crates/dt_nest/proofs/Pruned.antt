@@ -8,7 +8,6 @@ use Rattle.std.proofs.lemmas.List.{get_or-set_other, length-map}
 use Rattle.dt_model.specs.Shape.{are_extents, is_extent}
 use Rattle.dt_base.specs.Rows.{product}
 use Rattle.dt_model.specs.declared.shape.Shape.{Shape}
-use Rattle.dt_model.specs.WholeTensor.{WholeTensor}
 use Rattle.dt_model.specs.Positions.{StoredTensor, IsStored, tensor_at}
 use Rattle.dt_nest.specs.declared.loops.Walk.{Walk}
 use Rattle.dt_nest.specs.declared.loops.Pair.{Pair}
@@ -16,15 +15,17 @@ use Rattle.dt_nest.specs.declared.derivations.Derived.{Derived}
 use Rattle.dt_nest.specs.Tree.{Tree, Loop, Pre, Leaf, is_kernel_leaf}
 use Rattle.dt_nest.specs.Schedule.{Schedule}
 use Rattle.dt_nest.specs.Meaning.{Env, known, renamed, under, guards_hold, take_through}
-use Rattle.dt_nest.specs.World.{world_of, FitsWalk, FitsWalks, Fits}
+use Rattle.dt_nest.specs.World.{world_of, FitsWalk, FitsWalks}
+use Rattle.dt_nest.specs.FitsStored.{FitsStored}
 use Rattle.dt_nest.specs.Lawful.{WalkBelow, IsNamed, sources, is_replaced, AreOrdered, AreLoops, Loops, also, Follows, take_before, WalkFollows, AllFollow, AreGuarded, HaveGuards, IsLawful}
-use Rattle.dt_nest.specs.Inside.{guard_holds, renamed_extents, length_shapes}
+use Rattle.dt_nest.specs.Inside.{guard_holds, renamed_extents}
 use Rattle.dt_nest.specs.Each.{all_get}
 use Rattle.dt_nest.specs.Visits.{Item, IsVisit, value_in, tests_of, with_reset, values_on, lane_visit, is_valid, substituted_visits, tree_visits, no_slots, visits_of}
 use Rattle.dt_nest.specs.Values.{inside_in, with_first, all_inside, stored_inside, guard_inside, is_below, inside_tests}
 use Rattle.dt_nest.proofs.Names.{renamed-append}
 use Rattle.dt_nest.proofs.Known.{Outside, inside_known, inside_none, split_guarded}
-use Rattle.dt_nest.proofs.Agreement.{known_agree, follows_more, follows_under}
+use Rattle.dt_nest.specs.Agree.{known_agree, follows_more}
+use Rattle.dt_nest.proofs.Agreement.{follows_under}
 
 flat_none : (f : ℕ → List Item) (xs : List ℕ) → ((x : ℕ) → f x ≡ []) → flat_map f xs ≡ []
 flat_none f [] h = refl
@@ -60,7 +61,8 @@ module _ (stored : List StoredTensor) (s : Schedule) (each : (t : ℕ) → t < l
       go true e k = ap (is_replaced ds) (e refl) ∙ r
       go false e k = a u k
 
-  deeper : (around : Loops) (pairs : List Pair) (slots : List ℕ) (v i : ℕ) → around v ≡ false → Out around pairs slots → Out (also around v) pairs (slice_set slots v i)
+  -- a variable that is outside stays so below a loop
+  pub deeper : (around : Loops) (pairs : List Pair) (slots : List ℕ) (v i : ℕ) → around v ≡ false → Out around pairs slots → Out (also around v) pairs (slice_set slots v i)
   deeper around pairs slots v i f o =
       let same : known (world_of stored s) ds (renamed pairs) (slice_index slots) o.var ≡ known (world_of stored s) ds (renamed pairs) (slice_index (slice_set slots v i)) o.var =
       known_agree (world_of stored s) ds around (renamed pairs) (slice_index slots) (slice_index (slice_set slots v i)) (λ u a. sym (get_or-set_other slots v u i 0 (apart u a))) o.var o.follows in
@@ -80,7 +82,8 @@ module _ (stored : List StoredTensor) (s : Schedule) (each : (t : ℕ) → t < l
       subst (λ (name : Env). Outside (world_of stored s) ds around name (slice_index slots)) (sym (fun_ext (renamed-append pairs more)))
       (record { var = o.var; split = o.split; follows = r.0; past = subst (λ (n : ℕ). slice_index s.extents o.var ≤ n) (sym r.1) o.past })
 
-  leaf_fails : (guards : List ℕ) (around : Loops) (pairs : List Pair) (slots : List ℕ) → Keeps pairs → AreGuarded ds guards around (renamed pairs) → Out around pairs slots → guards_hold (world_of stored s) (value_in (world_of stored s) ds pairs slots) guards ≡ false
+  -- where a variable is outside no leaf's guards hold
+  pub leaf_fails : (guards : List ℕ) (around : Loops) (pairs : List Pair) (slots : List ℕ) → Keeps pairs → AreGuarded ds guards around (renamed pairs) → Out around pairs slots → guards_hold (world_of stored s) (value_in (world_of stored s) ds pairs slots) guards ≡ false
   leaf_fails guards around pairs slots keep g o = go (guards_hold (world_of stored s) (value_in (world_of stored s) ds pairs slots) guards) refl
     where
       go : (b : Bool) → guards_hold (world_of stored s) (value_in (world_of stored s) ds pairs slots) guards ≡ b → guards_hold (world_of stored s) (value_in (world_of stored s) ds pairs slots) guards ≡ false
@@ -298,10 +301,14 @@ module _ (stored : List StoredTensor) (s : Schedule) (each : (t : ℕ) → t < l
   same_visits (Leaf lhs terms guards kernel) around pairs slots path named fits a g loops plain keep =
       ap (λ (b : Bool). if b then IsVisit (record { leaf = record { lhs = lhs; terms = terms; guards = guards; kernel = kernel }; pairs = pairs; slots = slots; lanes = None }) ∷ [] else []) (holds_same guards around pairs slots keep a.1 g)
 
+-- each tensor of a schedule stores what its levels ask for
+pub stored_each : (stored : List StoredTensor) (s : Schedule) → FitsStored stored s → (t : ℕ) → t < length s.tensors → IsStored (tensor_at stored t)
+stored_each stored s f t k = all_get IsStored stored t (record { extents = []; compressed = []; coords = [] }) f.levels (omega (arith, k, f.count))
+
 -- A lawful schedule's visits are those under the tests that fail as soon as a variable is outside, for all tensors that fit.
-pub visits_inside : (s : Schedule) (stored : List StoredTensor) (tensors : List WholeTensor) (path : List ℕ) → IsLawful s → Fits stored tensors s
+pub visits_inside : (s : Schedule) (stored : List StoredTensor) (path : List ℕ) → IsLawful s → FitsStored stored s
     → tree_visits (inside_tests (world_of stored s) s.derived) s.nest [] (no_slots s) path ≡ visits_of stored s path
 unfolding visits_of
-visits_inside s stored tensors path l f =
-    same_visits stored s (λ t k. all_get IsStored stored t (record { extents = []; compressed = []; coords = [] }) f.levels (omega (arith, k, f.count, length_shapes stored tensors f.shapes))) s.derived l.ordered
+visits_inside s stored path l f =
+    same_visits stored s (stored_each stored s f) s.derived l.ordered
     s.nest (λ u. false) [] (no_slots s) path l.named f.walks l.follows l.guards l.loops (λ u a. absurd (cc)) (λ u. refl)

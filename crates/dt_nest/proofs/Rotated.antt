@@ -1,5 +1,6 @@
 -- Sums of values of variables, of which one may be outside.
 use Rattle.std.proofs.Common.{◌≡◌, ℕ, zero, suc, ◌+◌, ◌%◌, ◌<◌, List, [], ◌∷◌, take, get_or, length, Option, Some, None, option_map, refl, sym, ap, ◌∙◌}
+use Rattle.std.specs.Prelude.{max}
 use Rattle.std.proofs.lemmas.List.Sums.{fold_more}
 use Rattle.std.proofs.Math.Nat.{mod-add-mod}
 use Rattle.dt_nest.specs.declared.derivations.Derive.{Derive}
@@ -44,7 +45,8 @@ sum_stops val extent start i us l f =
     sym (ap (option_map (λ n. n % extent)) (drops val (Some start) us (i + 1) (fold_more (λ s u. joined (λ a b. a + b) s (val u)) (Some start) us i 0 l ∙ first_none (sum_inside val (Some start) (take i us)) (val (get_or us i 0)) f)))
 
 -- the value of a rotated variable, where the loop itself has the value x
-pub rotate_ok : (w : World) (v base extent x : ℕ) (by list : List ℕ) (how : Derive) (val : ℕ → Option ℕ) (r : Option ℕ) → how ≡ Rotate base by extent → val base ≡ Some x → list ≡ by
-    → r ≡ option_map (λ n. n % extent) (sum_inside val (Some x) list) → r ≡ derived_inside w v how val
-rotate_ok w v base extent x by list how val r e f m h =
-    h ∙ ap (λ (l : List ℕ). option_map (λ n. n % extent) (sum_inside val (Some x) l)) m ∙ ap (λ (o : Option ℕ). option_map (λ n. n % extent) (sum_inside val o by)) (sym f) ∙ ap (λ (d : Derive). derived_inside w v d val) (sym e)
+pub rotate_ok : (w : World) (v base extent m x : ℕ) (by list : List ℕ) (how : Derive) (val : ℕ → Option ℕ) (r : Option ℕ) → how ≡ Rotate base by extent → val base ≡ Some x → list ≡ by → m ≡ max extent 1
+    → r ≡ option_map (λ n. n % m) (sum_inside val (Some x) list) → r ≡ derived_inside w v how val
+rotate_ok w v base extent m x by list how val r e f l k h =
+    h ∙ ap (λ (k : ℕ). option_map (λ n. n % k) (sum_inside val (Some x) list)) k
+    ∙ ap (λ (l : List ℕ). option_map (λ n. n % max extent 1) (sum_inside val (Some x) l)) l ∙ ap (λ (o : Option ℕ). option_map (λ n. n % max extent 1) (sum_inside val o by)) (sym f) ∙ ap (λ (d : Derive). derived_inside w v d val) (sym e)

@@ -1,6 +1,6 @@
 -- Where the guards of a leaf hold, each variable that has a value there is below its extent.
-use Rattle.std.proofs.Common.{◌≡◌, ℕ, zero, suc, ◌+◌, ◌%◌, ◌<◌, Bool, true, false, ◌&&◌, ◌||◌, List, [], ◌∷◌, length, map, refl, sym, ap, ◌∙◌, subst, arith, sum_by}
-use Rattle.std.specs.Prelude.{if◌then◌else◌, nat_eq, nat_lt, slice_index, MatchBool}
+use Rattle.std.proofs.Common.{◌≡◌, ℕ, zero, suc, ◌+◌, ◌*◌, ◌%◌, ◌<◌, Bool, true, false, ◌&&◌, ◌||◌, List, [], ◌∷◌, length, map, refl, sym, ap, ◌∙◌, subst, arith, sum_by}
+use Rattle.std.specs.Prelude.{if◌then◌else◌, max, nat_eq, nat_lt, slice_index, MatchBool}
 use Rattle.std.specs.List.{AllByRecursion, list_any}
 use Rattle.std.proofs.lemmas.Bool.{eqb-true, ltb-true}
 use Rattle.std.proofs.lemmas.List.{length-map}
@@ -73,16 +73,20 @@ module _ (stored : List StoredTensor) (s : Schedule) (each : (t : ℕ) → t < l
   derived_below : (v : ℕ) (how : Derive) (val : Env) → IsBounded s v how → FitsDerive stored s v how → (is_split how ≡ true → derive_of (world_of stored s) how val < slice_index s.extents v)
       → AllByRecursion (λ u. val u < slice_index s.extents u) (sources how) → derive_of (world_of stored s) how val < slice_index s.extents v
   derived_below v (Split outer inner factor) val b f g h = g refl
-  derived_below v (Quotient fused by) val b f g h = (div-lt_iff_lt-mul b.0).1 (omega (arith, b.1, h.0))
-  derived_below v (Rest fused by) val b f g h = let l : val fused % by < by = mod-lt (val fused) b.0 in omega (arith, l, b.1)
-  derived_below v (Rotate base by extent) val b f g h = let l : (val base + sum_by val by) % extent < extent = mod-lt (val base + sum_by val by) b.0 in omega (arith, l, b.1)
+  derived_below v (Quotient fused zero) val b f g h = absurd (let e : slice_index s.extents v * 0 ≡ 0 = omega arith in omega (arith, b, e, h.0))
+  derived_below v (Quotient fused (suc by)) val b f g h = let p : 0 < suc by = omega arith in (div-lt_iff_lt-mul p).1 (omega (arith, b, h.0))
+  derived_below v (Rest fused by) val b f g h = let p : 0 < by = b.0 (omega (arith, h.0)) in let l : val fused % by < by = mod-lt (val fused) p in omega (arith, l, b.1)
+  derived_below v (Rotate base by zero) val b f g h = absurd (omega (arith, b.0, h.0))
+  derived_below v (Rotate base by (suc extent)) val b f g h =
+      let p : 0 < max (suc extent) 1 = omega arith in
+      let l : (val base + sum_by val by) % max (suc extent) 1 < max (suc extent) 1 = mod-lt (val base + sum_by val by) p in omega (arith, l, b.1)
   derived_below v (Pos tensor level base) val b f g h =
       let l : slice_index (coords_at (tensor_at stored tensor) (val base)) level < slice_index (tensor_at stored tensor).extents level =
       coords_below (tensor_at stored tensor) (each tensor b) (val base) (omega (arith, f.0, h.0)) level f.1 in
       omega (arith, l, f.2)
 
   -- so is each variable that has a value, where the guards of the splits hold
-  variables_below : (guards : List ℕ) (around : Loops) (name env : Env) → ((u : ℕ) → around u ≡ true → env u < slice_index s.extents u) → ((u : ℕ) → slice_index s.extents (name u) ≡ slice_index s.extents u)
+  pub variables_below : (guards : List ℕ) (around : Loops) (name env : Env) → ((u : ℕ) → around u ≡ true → env u < slice_index s.extents u) → ((u : ℕ) → slice_index s.extents (name u) ≡ slice_index s.extents u)
       → (ds : List Derived) → AreNamed s ds → AllByRecursion (λ d. FitsDerive stored s d.var d.how) ds → AreOrdered ds → AreGuarded ds guards around name
       → ((v : ℕ) → list_any (λ g. nat_eq (name g) v) guards ≡ true → is_replaced ds v ≡ true → known (world_of stored s) ds name env v < slice_index s.extents v)
       → (v : ℕ) → Follows ds around name v → known (world_of stored s) ds name env v < slice_index s.extents v

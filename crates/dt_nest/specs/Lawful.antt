@@ -14,6 +14,7 @@ use Rattle.dt_nest.specs.declared.derivations.Derive.TheVariants.{Split, Quotien
 use Rattle.dt_nest.specs.declared.derivations.Derived.{Derived}
 use Rattle.dt_nest.specs.declared.parts.Work.{Work}
 use Rattle.dt_nest.specs.Tree.{Tree, Loop, Pre, Leaf, loop_count, leaf_count, times, is_kernel_leaf, read_accesses, accesses_of}
+use Rattle.dt_nest.specs.Outputs.{WritesWorks}
 use Rattle.dt_nest.specs.Schedule.{Schedule}
 use Rattle.dt_nest.specs.Meaning.{Env, renamed, under}
 
@@ -73,13 +74,13 @@ abbrev pub AreOrdered : List Derived → Type 0
 AreOrdered [] = Unit {0}
 AreOrdered (d ∷ ds) = AllByRecursion (λ u. nat_eq u d.var ≡ false) (sources d.how) × IsPast d.var ds × AreOrdered ds
 
--- The value of a variable that no guard bounds is below its extent where those of what it follows from are; no divisor
--- is 0.
+-- The value of a variable that no guard bounds is below its extent where those of what it follows from are. A divisor is 0
+-- only where what is divided has no values.
 abbrev pub IsBounded : Schedule → ℕ → Derive → Type 0
 IsBounded s v (Split outer inner factor) = Unit {0}
-IsBounded s v (Quotient fused by) = (0 < by) × (slice_index s.extents fused ≤ slice_index s.extents v * by)
-IsBounded s v (Rest fused by) = (0 < by) × (by ≤ slice_index s.extents v)
-IsBounded s v (Rotate base by extent) = (0 < extent) × (extent ≤ slice_index s.extents v)
+IsBounded s v (Quotient fused by) = slice_index s.extents fused ≤ slice_index s.extents v * by
+IsBounded s v (Rest fused by) = (0 < slice_index s.extents fused → 0 < by) × (by ≤ slice_index s.extents v)
+IsBounded s v (Rotate base by extent) = (slice_index s.extents base ≤ extent) × (extent ≤ slice_index s.extents v)
 IsBounded s v (Pos tensor level base) = tensor < length s.tensors
 
 -- derivations speak of the schedule's loops, variables and tensors
@@ -229,11 +230,13 @@ WorksStand n (Leaf lhs terms guards kernel) written read =
 abbrev pub WorkAccess : Schedule → Access → Type 0
 WorkAccess s a = (w : ℕ) (x : Work) → a.tensor ≡ length s.tensors + w → slice_get s.works w ≡ Some x → x.extents ≡ map (λ v. slice_index s.extents v) a.vars
 
--- Each workspace has one precompute node, stands where it may, has at most 2 ^ 20 words, and is accessed with its extents.
+-- Each workspace has one precompute node, whose producer's last leaf writes it, stands where it may, has at most 2 ^ 20
+-- words, and is accessed with its extents.
 pub record AreWorks (s : Schedule) : Type 0 where
   pub once : (w : ℕ) → w < length s.works → nodes_with w s.nest ≡ 1
   pub leaves : leaf_count s.nest ≡ length s.works + 1
   pub stand : WorksStand (length s.tensors) s.nest [] []
+  pub written : WritesWorks (length s.tensors) s.nest
   pub small : AllByRecursion (λ w. product w.extents ≤ 1048576) s.works
   pub accesses : AllByRecursion (WorkAccess s) (accesses_of s.nest)
 

@@ -1,5 +1,5 @@
 -- What a nest adds at an index.
-use Rattle.std.specs.Prelude.{ℕ, ◌+◌, ◌*◌, ◌/◌, ◌%◌, Bool, true, ◌&&◌, List, [], ◌∷◌, Option, Some, None, map, sum_by, if◌then◌else◌, nat_eq, nat_lt}
+use Rattle.std.specs.Prelude.{ℕ, ◌+◌, ◌*◌, ◌/◌, ◌%◌, Bool, true, ◌&&◌, List, [], ◌∷◌, Option, Some, None, map, sum_by, if◌then◌else◌, max, nat_eq, nat_lt}
 use Rattle.std.specs.List.{list_all}
 use Rattle.std.specs.Str.{bytes_eq}
 use Rattle.dt_base.specs.Rows.{product}
@@ -32,12 +32,12 @@ Env = ℕ → ℕ
 abbrev pub bind : Env → ℕ → ℕ → Env
 bind env v x u = if nat_eq u v then x else env u
 
--- the value that a derivation gives, from the values of what it names
+-- the value that a derivation gives, from the values of what it names; a rotated loop without values counts as 0
 abbrev pub derive_of : World → Derive → Env → ℕ
 derive_of w (Split outer inner factor) val = val outer * factor + val inner
 derive_of w (Quotient fused by) val = val fused / by
 derive_of w (Rest fused by) val = val fused % by
-derive_of w (Rotate base by extent) val = (val base + sum_by val by) % extent
+derive_of w (Rotate base by extent) val = (val base + sum_by val by) % max extent 1
 derive_of w (Pos tensor level base) val = w.coord tensor level (val base)
 
 -- the value of a loop or of a replaced variable, where name gives the new names of renamed loops:

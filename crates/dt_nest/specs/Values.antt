@@ -1,6 +1,6 @@
 -- The value of a variable where each variable of a split on the way to it is below its extent, and none where one is not.
 -- Such a value fits its type, however deep the splits are nested.
-use Rattle.std.specs.Prelude.{ℕ, ◌+◌, ◌*◌, ◌/◌, ◌%◌, Bool, true, false, ◌&&◌, List, [], ◌∷◌, Option, Some, None, fold, option_map, if◌then◌else◌, nat_eq, nat_lt, nat_le, length, slice_index}
+use Rattle.std.specs.Prelude.{ℕ, ◌+◌, ◌*◌, ◌/◌, ◌%◌, Bool, true, false, ◌&&◌, List, [], ◌∷◌, Option, Some, None, fold, option_map, if◌then◌else◌, max, nat_eq, nat_lt, nat_le, length, slice_index}
 use Rattle.std.specs.List.{list_all}
 use Rattle.dt_nest.specs.declared.loops.Walk.{Walk}
 use Rattle.dt_nest.specs.declared.loops.Pair.{Pair}
@@ -30,7 +30,7 @@ abbrev pub derived_inside : World → ℕ → Derive → (ℕ → Option ℕ) �
 derived_inside w v (Split outer inner factor) val = bounded (w.extent v) (joined (λ x y. x * factor + y) (val outer) (val inner))
 derived_inside w v (Quotient fused by) val = option_map (λ x. x / by) (val fused)
 derived_inside w v (Rest fused by) val = option_map (λ x. x % by) (val fused)
-derived_inside w v (Rotate base by extent) val = option_map (λ x. x % extent) (sum_inside val (val base) by)
+derived_inside w v (Rotate base by extent) val = option_map (λ x. x % max extent 1) (sum_inside val (val base) by)
 derived_inside w v (Pos tensor level base) val = option_map (λ x. w.coord tensor level x) (val base)
 
 -- the value of a loop or variable, as it is known, and none outside

@@ -1,8 +1,12 @@
 //! The first schedule of a matrix product, and a nest that is copied.
 
+ghost use Rattle.std.specs.Prelude.{◌≡◌, ◌≤◌, IfOk, [], ◌∷◌, length};
+
+use crate::commands::{Rewrite, RewriteEnd, rewritten};
 use crate::loops::{Kernel, Nest};
-use dt_base::{NoMemory, Vars};
-use dt_model::{Access, Terms};
+use crate::schedules::Sched;
+use dt_base::{Extents, Name, Names, NoMemory, Vars};
+use dt_model::{Access, Stmt, Terms};
 use std::alloc::Global;
 use std::test::Fail;
 
@@ -39,5 +43,60 @@ fn kernels_are_told_apart(rt: HostRuntime) -> Result<(), Fail> {
     };
     assert_eq!(rt; depth(&nest), 1);
     assert_eq!(rt; depth(&nest.copied(alloc)?), 1);
+    Ok(())
+}
+
+fn one_name(alloc: Global, name: &[u8]) -> Result<Names, NoMemory>
+    requires { length name.now ≤ 64 }
+    ensures { IfOk result (λ names. names ≡ name.now ∷ []) }
+{
+    let mut names = Names::new(alloc);
+    names.push(Name::from_slice(name))?;
+    Ok(names)
+}
+
+/// The schedule of a statement over two values of one variable, with no term.
+fn empty_sum(alloc: Global) -> Result<Sched, NoMemory> {
+    let vars = Vars::from_slice(alloc, &[0])?;
+    let stmt = Stmt {
+        lhs: Access { tensor: 0, vars },
+        adds: true,
+        terms: Terms::new(alloc),
+        extents: Extents::from_slice(alloc, &[2])?,
+    };
+    let variables = one_name(alloc, b"i")?;
+    let tensors = one_name(alloc, b"A")?;
+    Sched::of_stmt(alloc, &stmt, &variables, &tensors)
+}
+
+/// A command that changes nothing.
+#[derive(Drop)]
+struct Nothing;
+
+impl Rewrite for Nothing {
+    ghost use Rattle.std.specs.Prelude.{None, refl};
+
+    ghost can_apply = { λ c s. Unit {0} };
+
+    ghost cause = { λ c s. None };
+
+    ghost effect = { λ c s. s };
+
+    fn apply(self, _alloc: Global, sched: Sched) -> Result<Sched, RewriteEnd> {
+        Ok(sched)
+    }
+
+    ghost keeps_sum = { λ c s l a e. record { fits = λ stored tensors f. f; sums = λ stored tensors i f. refl } };
+}
+
+#[test]
+fn a_statement_has_a_loop_for_each_variable(rt: HostRuntime) -> Result<(), Fail> {
+    let alloc = rt.alloc();
+    let sched = empty_sum(alloc)?;
+    assert_eq!(rt; depth(&sched.parts().nest), 1);
+    match rewritten(Nothing, alloc, sched) {
+        Ok(sched) => assert_eq!(rt; depth(&sched.parts().nest), 1),
+        Err(_) => assert!(rt; false),
+    }
     Ok(())
 }

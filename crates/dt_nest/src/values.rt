@@ -1,17 +1,20 @@
 //! The values of variables on the way to a visit.
 
-ghost use Rattle.std.specs.Prelude.{◌≡◌, ◌<◌, ◌+◌, ◌*◌, ◌%◌, ◌≤◌, nat_eq, Some, option_map, length, slice_index};
+ghost use Rattle.std.specs.Prelude.{◌≡◌, ◌<◌, ◌+◌, ◌*◌, ◌%◌, ◌/◌, ◌≤◌, nat_eq, Some, option_map, length, slice_index};
 ghost use Rattle.dt_model.specs.Positions.{StoredTensor};
 ghost use Rattle.dt_nest.specs.Schedule.{seen};
 ghost use Rattle.dt_nest.specs.Meaning.{renamed, take_through};
 ghost use Rattle.dt_nest.specs.World.{coordinate_at, world_of};
 ghost use Rattle.dt_nest.specs.Lawful.{AreNamed, IsBounded};
 ghost use Rattle.dt_nest.specs.Naming.{pairs_in};
-ghost use Rattle.dt_nest.specs.Values.{inside, inside_in, derived_inside, sum_inside, all_inside, guard_inside, takes_inside};
+ghost use Rattle.dt_nest.specs.Odometer.{guards_of};
+ghost use Rattle.dt_nest.specs.Tree.{tree_of};
+ghost use Rattle.dt_nest.specs.Values.{inside, inside_in, derived_inside, sum_inside, all_inside, guard_inside, takes_inside, inside_tests};
 ghost use Rattle.dt_nest.specs.Prefix.{Filled};
 
 use crate::derivations::{Derive, Derived};
-use crate::loops::Walk;
+use crate::lanes::Slots;
+use crate::loops::{Nest, Walk};
 use crate::naming::Naming;
 use crate::odometer::Testing;
 use crate::parts::SchedParts;
@@ -37,6 +40,22 @@ fn coordinate<L: Locator>(loc: &L, tensor: u32, level: u8, p: u32) -> u32
     number_at(c.as_slice(), level as u32)
 }
 
+/// The quotient, which is 0 for the divisor 0.
+#[tactic(auto)]
+fn quotient(x: u32, by: u32) -> u32
+    ensures { result ≡ x / by }
+{
+    if by == 0 { 0 } else { x / by }
+}
+
+/// What is left of a division, which is the number itself for the divisor 0.
+#[tactic(auto)]
+fn rest_of(x: u32, by: u32) -> u32
+    ensures { result ≡ x % by }
+{
+    if by == 0 { x } else { x % by }
+}
+
 /// The value of a loop or replaced variable, and none where a variable of a split on the way to it is not below its
 /// extent.
 #[cycle(value)]
@@ -46,7 +65,7 @@ pub fn value<L: Locator>(
     parts: &SchedParts,
     loc: &L,
     naming: &Naming,
-    slots: &[u32],
+    slots: &Slots,
     v: u32,
 ) -> Option<u32>
     requires named { AreNamed (seen parts.now) derived.now }
@@ -54,7 +73,7 @@ pub fn value<L: Locator>(
     ensures { result ≡ inside (world_of (L.tensors loc.now) (seen parts.now)) derived.now (renamed (pairs_in naming.now)) (slice_index slots.now) v }
 {
     match derived.split_first() {
-        None => Some(number_at(slots, v)),
+        None => Some(slots.at(v)),
         Some((first, rest)) => {
             if v == first.var {
                 derived_value(&first.how, rest, parts, loc, naming, slots, v)
@@ -74,7 +93,7 @@ fn derived_value<L: Locator>(
     parts: &SchedParts,
     loc: &L,
     naming: &Naming,
-    slots: &[u32],
+    slots: &Slots,
     v: u32,
 ) -> Option<u32>
     requires named { AreNamed (seen parts.now) rest.now }
@@ -99,15 +118,24 @@ fn derived_value<L: Locator>(
         }
         Derive::Quotient { fused, by } => {
             let x = value(rest, parts, loc, naming, slots, naming.name(*fused))?;
-            Some(x / *by)
+            Some(quotient(x, *by))
         }
         Derive::Rest { fused, by } => {
             let x = value(rest, parts, loc, naming, slots, naming.name(*fused))?;
-            Some(x % *by)
+            Some(rest_of(x, *by))
         }
         Derive::Rotate { base, by, extent } => {
             let x = value(rest, parts, loc, naming, slots, naming.name(*base))?;
-            rotated(x, by.as_slice(), *extent, rest, parts, loc, naming, slots)
+            rotated(
+                x,
+                by.as_slice(),
+                (*extent).max(1),
+                rest,
+                parts,
+                loc,
+                naming,
+                slots,
+            )
         }
         Derive::Pos {
             tensor,
@@ -131,7 +159,7 @@ fn rotated<L: Locator>(
     parts: &SchedParts,
     loc: &L,
     naming: &Naming,
-    slots: &[u32],
+    slots: &Slots,
 ) -> Option<u32>
     requires named { AreNamed (seen parts.now) rest.now }
     requires some { 0 < extent }
@@ -156,7 +184,7 @@ fn prefix<L: Locator>(
     parts: &SchedParts,
     loc: &L,
     naming: &Naming,
-    slots: &[u32],
+    slots: &Slots,
     at: usize,
     coords: &mut [u32],
 ) -> Option<usize>
@@ -188,7 +216,7 @@ fn is_inside<L: Locator>(
     parts: &SchedParts,
     loc: &L,
     naming: &Naming,
-    slots: &[u32],
+    slots: &Slots,
     guard: u32,
 ) -> bool
     requires named { AreNamed (seen parts.now) parts.now.derived }
@@ -215,7 +243,7 @@ fn takes_stored<L: Locator>(
     parts: &SchedParts,
     loc: &L,
     naming: &Naming,
-    slots: &[u32],
+    slots: &Slots,
 ) -> bool
     requires named { AreNamed (seen parts.now) parts.now.derived }
     requires tensors { length (L.tensors loc.now) ≡ length parts.now.tensors }
@@ -233,9 +261,48 @@ fn takes_stored<L: Locator>(
 }
 
 /// The parts of a schedule against tensors: the tests of its visits.
+#[derive(Drop)]
 pub struct Against<'s, L: Locator> {
     pub parts: &'s SchedParts,
     pub loc: &'s L,
+}
+
+impl<L: Locator> Against<'_, L> {
+    /// Whether a loop takes its value.
+    pub fn takes_at(&self, walk: &Option<Walk>, var: u32, naming: &Naming, slots: &Slots) -> bool
+        requires named { AreNamed (seen self.now.parts.now) self.now.parts.now.derived }
+        requires tensors { length (L.tensors self.now.loc.now) ≡ length self.now.parts.now.tensors }
+        ensures { result ≡ (inside_tests (world_of (L.tensors self.now.loc.now) (seen self.now.parts.now)) self.now.parts.now.derived).takes walk.now var (pairs_in naming.now) slots.now }
+    {
+        match walk {
+            None => true,
+            Some(walk) => takes_stored(walk, var, self.parts, self.loc, naming, slots),
+        }
+    }
+
+    /// Whether guards hold.
+    pub fn holds_at(&self, guards: &[u32], naming: &Naming, slots: &Slots) -> bool
+        requires named { AreNamed (seen self.now.parts.now) self.now.parts.now.derived }
+        requires tensors { length (L.tensors self.now.loc.now) ≡ length self.now.parts.now.tensors }
+        ensures { result ≡ (inside_tests (world_of (L.tensors self.now.loc.now) (seen self.now.parts.now)) self.now.parts.now.derived).holds guards.now (pairs_in naming.now) slots.now }
+    {
+        guards
+            .iter()
+            .all(|g| is_inside(self.parts, self.loc, naming, slots, *g))
+    }
+
+    /// Whether the guards of a leaf hold.
+    pub fn holds_in(&self, leaf: &Nest, naming: &Naming, slots: &Slots) -> bool
+        requires named { AreNamed (seen self.now.parts.now) self.now.parts.now.derived }
+        requires tensors { length (L.tensors self.now.loc.now) ≡ length self.now.parts.now.tensors }
+        ensures { result ≡ (inside_tests (world_of (L.tensors self.now.loc.now) (seen self.now.parts.now)) self.now.parts.now.derived).holds (guards_of (tree_of leaf.now)) (pairs_in naming.now) slots.now }
+    {
+        match leaf {
+            Nest::Loop { .. } => true,
+            Nest::Pre { .. } => true,
+            Nest::Leaf { guards, .. } => self.holds_at(guards.as_slice(), naming, slots),
+        }
+    }
 }
 
 impl<L: Locator> Testing for Against<'_, L> {
@@ -250,15 +317,10 @@ impl<L: Locator> Testing for Against<'_, L> {
     ghost ready = { λ a. AreNamed (seen a.parts.now) a.parts.now.derived × (length (L.tensors a.loc.now) ≡ length a.parts.now.tensors) };
 
     fn takes(&self, walk: &Option<Walk>, var: u32, naming: &Naming, slots: &[u32]) -> bool {
-        match walk {
-            None => true,
-            Some(walk) => takes_stored(walk, var, self.parts, self.loc, naming, slots),
-        }
+        self.takes_at(walk, var, naming, &Slots::of(slots))
     }
 
     fn holds(&self, guards: &[u32], naming: &Naming, slots: &[u32]) -> bool {
-        guards
-            .iter()
-            .all(|g| is_inside(self.parts, self.loc, naming, slots, *g))
+        self.holds_at(guards, naming, &Slots::of(slots))
     }
 }

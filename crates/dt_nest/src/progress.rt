@@ -1,0 +1,98 @@
+//! Where a run over visits stands, and how it goes on.
+
+ghost use Rattle.std.specs.Prelude.{◌≡◌, ◌≤◌, ◌<◌, ◌^◌, length, slice_get};
+ghost use Rattle.dt_nest.specs.Schedule.{seen};
+ghost use Rattle.dt_nest.specs.Tree.{tree_of, leaf_count};
+ghost use Rattle.dt_nest.specs.Odometer.{works_at};
+ghost use Rattle.dt_nest.specs.Run.{ArrivesAt, IsSound, Moves, answer_at, left_of, run_tests, standing};
+
+use crate::branches::work_of;
+use crate::loops::Nest;
+use crate::naming::Naming;
+use crate::odometer::{first, next_visit};
+use crate::values::Against;
+use dt_model::Locator;
+
+/// One item of a run: the reset of a workspace, or the visit of a leaf.
+#[derive(Clone, Copy, Debug, PartialEq, Eq)]
+pub enum Visit {
+    Reset(u32),
+    Leaf,
+}
+
+/// Where a run stands: before its first item, behind a reset on the way to a leaf, on a leaf, or behind its last item.
+#[derive(Clone, Copy, Debug)]
+pub enum Progress {
+    Before,
+    Resetting { leaf: u32, past: u32, work: u32 },
+    On { leaf: u32 },
+    Done,
+}
+
+impl Progress {
+    /// The number of the leaf, and 0 where there is none.
+    pub fn leaf(self) -> u32
+        ensures { result ≡ standing self }
+    {
+        match self {
+            Progress::Before => 0,
+            Progress::Resetting { leaf, .. } => leaf,
+            Progress::On { leaf } => leaf,
+            Progress::Done => 0,
+        }
+    }
+
+    /// The last item, and none before the first and behind the last.
+    pub fn answer(self) -> Option<Visit>
+        ensures { result ≡ answer_at self }
+    {
+        match self {
+            Progress::Before => None,
+            Progress::Resetting { work, .. } => Some(Visit::Reset(work)),
+            Progress::On { .. } => Some(Visit::Leaf),
+            Progress::Done => None,
+        }
+    }
+}
+
+/// The place after a leaf was found: its next reset, or the leaf itself.
+fn arrival(nest: &Nest, leaf: u32, past: u32) -> Progress
+    requires few { leaf_count (tree_of nest.now) < 2 ^ 32 }
+    requires exists { past ≤ length (works_at (tree_of nest.now) leaf) }
+    ensures { ArrivesAt (slice_get (works_at (tree_of nest.now) leaf) past) leaf past result }
+{
+    match work_of(nest, leaf, past) {
+        None => Progress::On { leaf },
+        Some(work) => Progress::Resetting {
+            leaf,
+            past: past + 1,
+            work,
+        },
+    }
+}
+
+/// Goes on to the next item.
+pub fn advanced<L: Locator>(
+    against: &Against<L>,
+    path: &[u32],
+    progress: Progress,
+    slots: &mut [u32],
+) -> Progress
+    requires { IsSound (L.tensors against.now.loc.now) (seen against.now.parts.now) path.now slots.old progress }
+    ensures sound { IsSound (L.tensors against.now.loc.now) (seen against.now.parts.now) path.now slots.new result }
+    ensures moves { Moves (run_tests (L.tensors against.now.loc.now) (seen against.now.parts.now)) (tree_of against.now.parts.now.nest) path.now (left_of (run_tests (L.tensors against.now.loc.now) (seen against.now.parts.now)) (tree_of against.now.parts.now.nest) path.now slots.old progress) slots.new result }
+{
+    let nest = &against.parts.nest;
+    match progress {
+        Progress::Before => match first(nest, &Naming::Root, against, path, slots) {
+            None => Progress::Done,
+            Some(leaf) => arrival(nest, leaf, 0),
+        },
+        Progress::Resetting { leaf, past, .. } => arrival(nest, leaf, past),
+        Progress::On { leaf } => match next_visit(nest, &Naming::Root, against, path, leaf, slots) {
+            None => Progress::Done,
+            Some(stand) => arrival(nest, stand.leaf, stand.past),
+        },
+        Progress::Done => Progress::Done,
+    }
+}

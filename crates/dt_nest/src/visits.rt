@@ -1,0 +1,202 @@
+//! The visits of a schedule's nest, one after another.
+
+ghost use Rattle.std.specs.Prelude.{◌≡◌, ◌<◌, true, IfOk, option_map, replicate, slice_index, unwrap_or};
+ghost use Rattle.dt_nest.specs.Tree.{tree_of};
+ghost use Rattle.dt_nest.specs.FitsStored.{FitsStored};
+ghost use Rattle.dt_nest.specs.Visits.{IsPath};
+ghost use Rattle.dt_nest.specs.Run.{AreAscending, AreValued, Goes, HasLaneValue, HasValue, IsAtLeaf, IsExtent, IsLaneValue, IsLeafOf, IsValue, OnLanes, OnVisit, SameNest, answer_of, is_among, run_over};
+
+use crate::branches::{Substituted, is_valid_at, leaf_of, substituted_of, value_of};
+use crate::lanes::{Lane, Slots};
+use crate::loops::Nest;
+use crate::naming::Naming;
+use crate::progress::{Progress, Visit, advanced};
+use crate::schedules::Sched;
+use crate::values::Against;
+use dt_base::NoMemory;
+use dt_model::Locator;
+use std::alloc::Global;
+use std::marker::Model;
+
+/// The number that there is, and 0 where there is none.
+fn number_of(value: Option<u32>) -> u64
+    ensures { result ≡ unwrap_or value 0 }
+{
+    match value {
+        None => 0,
+        Some(x) => u64::from(x),
+    }
+}
+
+/// The extent of a loop, where there is one.
+fn extent_of(substituted: Option<Substituted>) -> Option<u32>
+    ensures { result ≡ option_map (λ loop. loop.extent) substituted }
+{
+    match substituted {
+        None => None,
+        Some(substituted) => Some(substituted.extent),
+    }
+}
+
+/// So many slots, each 0.
+fn zeros(alloc: Global, count: usize) -> Result<Vec<u32>, NoMemory>
+    ensures { IfOk result (λ slots. slots.items ≡ replicate count 0) }
+{
+    let slots = vec![in alloc; 0u32; count]?;
+    Ok(slots)
+}
+
+/// A run over the visits of a schedule's nest that extend a path.
+#[derive(Drop)]
+pub struct Visits<'s, L: Locator> {
+    sched: &'s Sched,
+    loc: &'s L,
+    path: Vec<u32>,
+    slots: Vec<u32>,
+    progress: Progress,
+}
+
+impl<'s, L: Locator> Model for Visits<'s, L> {
+    ghost use Rattle.std.specs.Coded.{Coded, codes};
+    ghost use Rattle.dt_nest.specs.TreeCode.{Node, tree_code};
+    ghost use Rattle.dt_nest.specs.Run.{IsSound, Run, run_of};
+
+    ghost Value = { Run };
+
+    ghost coded = { let node : Coded Node = Prim.hlevel codes in Prim.hlevel (codes, tree_code node) };
+
+    ghost view = { λ a. run_of (L.tensors a.loc.now) a.sched.now a.path.items a.slots.items a.progress };
+
+    ghost invariant = { λ a. IsSound (L.tensors a.loc.now) a.sched.now a.path.items a.slots.items a.progress };
+}
+
+impl<'s, L: Locator> Visits<'s, L> {
+    /// The visits that extend a path.
+    pub fn over(
+        alloc: Global,
+        sched: &'s Sched,
+        loc: &'s L,
+        path: &[u32],
+    ) -> Result<Visits<'s, L>, NoMemory>
+        requires fits { FitsStored (L.tensors loc.now) sched.now }
+        requires path { IsPath sched.now path.now }
+        ensures { IfOk result (λ v. v ≡ run_over (L.tensors loc.now) sched.now path.now) }
+    {
+        let names = sched.parts().names.as_slice().len();
+        let slots = zeros(alloc, names)?;
+        let path = Vec::from_slice(alloc, path)?;
+        Ok(Visits {
+            sched,
+            loc,
+            path,
+            slots,
+            progress: Progress::Before,
+        })
+    }
+
+    /// The next item, and none where all were given. It takes no memory.
+    pub fn next(&mut self) -> Option<Visit>
+        ensures goes { Goes self.old result self.new }
+        ensures same { SameNest self.old self.new }
+    {
+        let sched = self.sched;
+        let against = Against {
+            parts: sched.parts(),
+            loc: self.loc,
+        };
+        let path = self.path.as_slice();
+        self.progress = advanced(&against, path, self.progress, self.slots.as_mut_slice());
+        self.progress.answer()
+    }
+
+    /// The last answer of `next`, and none before the first.
+    pub fn last(&self) -> Option<Visit>
+        ensures { result ≡ option_map answer_of self.now.last }
+    {
+        self.progress.answer()
+    }
+
+    /// The leaf of the last visit.
+    pub fn leaf(&self) -> &Nest
+        requires { IsAtLeaf self.now }
+        ensures leaf { IsLeafOf self.now (tree_of result.now) }
+        ensures valued { AreValued self.now }
+    {
+        let sched = self.sched;
+        leaf_of(&sched.parts().nest, self.progress.leaf())
+    }
+
+    /// The extent of the last visit's substituted loop, and none where its leaf isn't substituted.
+    pub fn lanes(&self) -> Option<u32>
+        requires { IsAtLeaf self.now }
+        ensures extent { IsExtent self.now result }
+        ensures ascending { OnVisit self.now.last (λ visit. AreAscending visit.lanes) }
+    {
+        let sched = self.sched;
+        extent_of(substituted_of(&sched.parts().nest, self.progress.leaf()))
+    }
+
+    /// Whether a number below the extent is a valid value of the last visit's substituted loop.
+    pub fn valid(&self, x: u32) -> bool
+        requires { OnLanes self.now (λ lanes. x < lanes.extent) }
+        ensures { OnLanes self.now (λ lanes. result ≡ is_among x lanes.valid) }
+    {
+        let sched = self.sched;
+        let against = Against {
+            parts: sched.parts(),
+            loc: self.loc,
+        };
+        is_valid_at(
+            &against.parts.nest,
+            &Naming::Root,
+            &against,
+            self.slots.as_slice(),
+            self.progress.leaf(),
+            x,
+        )
+    }
+
+    /// The value of a variable at the last visit, whatever value a substituted loop has.
+    pub fn eval(&self, var: u32) -> u64
+        requires { HasValue self.now var }
+        ensures value { IsValue self.now var result }
+        ensures below { result < slice_index self.now.sched.extents var }
+    {
+        let sched = self.sched;
+        let against = Against {
+            parts: sched.parts(),
+            loc: self.loc,
+        };
+        let slots = Slots::of(self.slots.as_slice());
+        let nest = &against.parts.nest;
+        let leaf = self.progress.leaf();
+        number_of(value_of(nest, &Naming::Root, &against, &slots, leaf, var))
+    }
+
+    /// The value of a variable at the last visit, where the substituted loop has a valid value.
+    pub fn eval_lane(&self, x: u32, var: u32) -> u64
+        requires valid { OnLanes self.now (λ lanes. is_among x lanes.valid ≡ true) }
+        requires valued { HasLaneValue self.now var }
+        ensures value { IsLaneValue self.now x var result }
+        ensures below { result < slice_index self.now.sched.extents var }
+    {
+        let sched = self.sched;
+        let against = Against {
+            parts: sched.parts(),
+            loc: self.loc,
+        };
+        let nest = &against.parts.nest;
+        let leaf = self.progress.leaf();
+        match substituted_of(nest, leaf) {
+            None => 0,
+            Some(substituted) => {
+                let lane = Lane {
+                    var: substituted.var,
+                    value: x,
+                };
+                let slots = Slots::with_lane(self.slots.as_slice(), lane);
+                number_of(value_of(nest, &Naming::Root, &against, &slots, leaf, var))
+            }
+        }
+    }
+}
