@@ -22,4 +22,4 @@ pub use machine_line::parse_machine;
 pub use machines::Machine;
 pub use place_form::PlaceForm;
 pub use place_line::{parse_place, read_place, resolve_place};
-pub use placements::{Placement, Symbol, Symbols};
+pub use placements::{Placement, Places, Symbol, Symbols};

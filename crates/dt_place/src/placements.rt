@@ -86,3 +86,50 @@ impl Placement {
         Placement::FirstNode
     }
 }
+
+/// Placements of tensors, in order.
+#[derive(Debug, Drop)]
+pub struct Places {
+    pub items: Vec<Placement>,
+}
+
+impl Model for Places {
+    ghost use Rattle.std.specs.Prelude.{List};
+    ghost use Rattle.dt_place.specs.declared.placements.Placement.{Placement};
+
+    ghost Value = { List Placement };
+
+    ghost view = { λ l. l.items.items };
+}
+
+impl Places {
+    pub fn new(alloc: Global) -> Places
+        ensures { result ≡ [] }
+    {
+        Places {
+            items: Vec::new(alloc),
+        }
+    }
+
+    /// The list with these placements.
+    pub fn from_vec(items: Vec<Placement>) -> Places
+        ensures { result ≡ items.items }
+    {
+        Places { items }
+    }
+
+    pub fn as_slice(&self) -> &[Placement]
+        ensures { result.now ≡ self.now }
+    {
+        self.items.as_slice()
+    }
+
+    /// Puts one placement at the end.
+    pub fn push(&mut self, placement: Placement) -> Result<(), NoMemory>
+        ensures ok { OnOk result (self.new ≡ self.old ++ placement ∷ []) }
+        ensures err { OnErr result (self.new ≡ self.old) }
+    {
+        self.items.push(placement)?;
+        Ok(())
+    }
+}
