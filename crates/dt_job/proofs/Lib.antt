@@ -2,5 +2,4 @@ pub mod ContentFacts
 pub mod FillFacts
 pub mod ReadLaws
 pub mod PieceLemmas
-pub mod Unread
 pub mod Words

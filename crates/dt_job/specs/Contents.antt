@@ -1,14 +1,17 @@
 -- The tensors that a job declares.
-use Rattle.std.specs.Prelude.{ℕ, List, map, replicate, Bool, true, false, Option, Some, is_some, option_map, unwrap_or, slice_get}
+use Rattle.std.specs.Prelude.{ℕ, List, length, map, replicate, Bool, true, false, Option, Some, is_some, option_map, unwrap_or, slice_get}
 use Rattle.dt_base.specs.Rows.{product}
 use Rattle.dt_index.specs.Known.{Known}
 use Rattle.dt_tensor.specs.Packed.{Packed, dense_tensor}
+use Rattle.dt_place.specs.declared.placements.Placement.{Placement}
+use Rattle.dt_place.specs.declared.placements.Placement.TheVariants.{FirstNode}
 use Rattle.indexmap.specs.Layout.{set_value_at}
 
--- a tensor's extents, and its numbers where a line gives them
+-- a tensor's extents, its numbers where a line gives them, and its placement where a line says it
 pub record Content : Type 0 where
   pub extents : List ℕ
   pub values : Option (List ℕ)
+  pub placement : Option Placement
 
 -- tensors by name, in order of declaration
 abbrev pub Contents : Type 0
@@ -34,9 +37,25 @@ tensor_of c = dense_tensor c.extents (unwrap_or c.values (replicate (product c.e
 abbrev pub tensors_of : Contents → List Packed
 tensors_of tensors = map (λ t. tensor_of t.1) tensors
 
+-- the placement of a tensor: node 0 holds it whole where no line says more
+abbrev pub placement_of : Content → Placement
+placement_of c = unwrap_or c.placement FirstNode
+
+-- the placements of the tensors
+abbrev pub places_of : Contents → List Placement
+places_of tensors = map (λ t. placement_of t.1) tensors
+
 -- whether a line has given the numbers of the tensor at this place
 abbrev pub is_given : Contents → ℕ → Bool
 is_given tensors k = unwrap_or (option_map (λ t. is_some t.1.values) (slice_get tensors k)) false
+
+-- whether a line has placed the tensor at this place
+abbrev pub is_placed : Contents → ℕ → Bool
+is_placed tensors k = unwrap_or (option_map (λ t. is_some t.1.placement) (slice_get tensors k)) false
+
+-- how many dimensions the tensor at this place has
+abbrev pub order_of : Contents → ℕ → ℕ
+order_of tensors k = unwrap_or (option_map (λ t. length t.1.extents) (slice_get tensors k)) 0
 
 -- how many positions the tensor at this place has
 abbrev pub position_count_of : Contents → ℕ → ℕ
@@ -45,3 +64,7 @@ position_count_of tensors k = unwrap_or (option_map (λ t. product t.1.extents) 
 -- the tensor at this place has these numbers
 abbrev pub with_values : Contents → ℕ → List ℕ → Contents
 with_values tensors k values = unwrap_or (option_map (λ t. set_value_at tensors k (record t.1 { values = Some values })) (slice_get tensors k)) tensors
+
+-- the tensor at this place has this placement
+abbrev pub with_placement : Contents → ℕ → Placement → Contents
+with_placement tensors k p = unwrap_or (option_map (λ t. set_value_at tensors k (record t.1 { placement = Some p })) (slice_get tensors k)) tensors

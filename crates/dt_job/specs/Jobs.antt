@@ -1,32 +1,20 @@
 -- A whole job.
-use Rattle.std.specs.Prelude.{◌≡◌, ℕ, ◌<◌, ◌≤◌, List, length, map, All, IsSome, Bool, false, nat_eq}
-use Rattle.std.specs.List.{IsDistinct, list_any}
+use Rattle.std.specs.Prelude.{◌≡◌, ℕ, ◌<◌, ◌≤◌, List, length, map, All, IsSome, false}
+use Rattle.std.specs.List.{IsDistinct}
 use Rattle.std.specs.Str.{bytes_eq}
 use Rattle.dt_base.specs.Rows.{product}
 use Rattle.dt_model.specs.Shape.{shape_of_extents}
 use Rattle.dt_model.specs.Stmts.{AreEven, AreUsed, IsStmt}
-use Rattle.dt_model.specs.declared.stmt.Factor.{Factor}
-use Rattle.dt_model.specs.declared.stmt.Factor.TheVariants.{Read, Literal}
-use Rattle.dt_model.specs.declared.stmt.Term.{Term}
 use Rattle.dt_model.specs.declared.stmt.Stmt.{Stmt}
+use Rattle.dt_index.specs.Reads.{right_side_reads}
 use Rattle.dt_index.specs.Resolve.{IsSmall}
 use Rattle.dt_tensor.specs.Packed.{Packed, dense_tensor}
+use Rattle.dt_place.specs.Machines.{MachineView}
+use Rattle.dt_place.specs.Placements.{IsPlacement}
+use Rattle.dt_place.specs.declared.placements.Placement.{Placement}
 use Rattle.dt_job.specs.declared.job.Job.{Job}
 use Rattle.dt_job.specs.declared.outputs.Show.{Show}
 use Rattle.dt_job.specs.declared.outputs.Show.TheVariants.{Print}
-
--- whether a factor reads the tensor with this number
-abbrev pub factor_reads : ℕ → Factor → Bool
-factor_reads k (Read a) = nat_eq a.tensor k
-factor_reads k (Literal n) = false
-
--- whether a term reads the tensor with this number
-abbrev pub term_reads : ℕ → Term → Bool
-term_reads k t = list_any (factor_reads k) t.factors
-
--- whether the right side of a statement reads the tensor with this number
-abbrev pub right_side_reads : ℕ → Stmt → Bool
-right_side_reads k s = list_any (term_reads k) s.terms
 
 -- A statement over tensors of these shapes: each variable stands in it, each term has each reduction variable, it has
 -- at most 16 terms of at most 8 factors, and it does not read its left tensor.
@@ -52,12 +40,19 @@ pub record IsJobTensor (t : Packed) : Type 0 where
 abbrev pub shapes_of_job : Job → List (List ℕ)
 shapes_of_job j = map (λ t. t.extents) j.tensors
 
--- At most 32 tensors, whose names differ, and at most 32 statements over them; every output is one of them.
+-- a placement fits this machine
+abbrev pub FitsOn : MachineView → Placement → Type 0
+FitsOn m p = IsPlacement p m
+
+-- At most 32 tensors, whose names differ, each with a placement that fits the machine, and at most 32 statements over
+-- them; every output is one of them.
 pub record IsJob (j : Job) : Type 0 where
   pub named : length j.names ≡ length j.tensors
   pub differ : IsDistinct bytes_eq j.names
   pub few : length j.tensors ≤ 32
   pub tensors : All IsJobTensor j.tensors
+  pub placed : length j.places ≡ length j.tensors
+  pub places : All (FitsOn j.machine) j.places
   pub few_stmts : length j.stmts ≤ 32
   pub stmts : All (IsJobStmt (shapes_of_job j)) j.stmts
   pub shows : All (ShowsBelow (length j.tensors)) j.shows

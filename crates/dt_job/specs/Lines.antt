@@ -1,12 +1,12 @@
 -- What each line says: the draft after it, or the first cause against it.
-use Rattle.std.specs.Prelude.{ℕ, List, [], ◌∷◌, ◌++◌, length, codes, not, ◌&&◌, ◌==◌, nat_le, nat_lt, if◌then◌else◌, None, is_some, Result, Ok, Err}
+use Rattle.std.specs.Prelude.{ℕ, List, [], ◌∷◌, ◌++◌, length, codes, not, ◌&&◌, ◌==◌, nat_le, nat_lt, if◌then◌else◌, None, Some, is_some, Result, Ok, Err}
 use Rattle.std.specs.List.{list_all}
 use Rattle.std.specs.Str.{bytes_eq}
 use Rattle.dt_base.specs.Rows.{product}
 use Rattle.dt_text.specs.Lines.{plain_line}
 use Rattle.dt_text.specs.Names.{is_name}
 use Rattle.dt_text.specs.Numbers.{is_numeral}
-use Rattle.dt_text.specs.Tokens.{after_word}
+use Rattle.dt_text.specs.Tokens.{after_word, tokens_of}
 use Rattle.dt_text.specs.Words.{line_words}
 use Rattle.dt_text.specs.declared.text_end.TextEnd.{TextEnd}
 use Rattle.dt_text.specs.declared.text_end.TextEnd.TheVariants as text_ends
@@ -18,9 +18,11 @@ use Rattle.dt_model.specs.Shape.{dims, shape_of_extents}
 use Rattle.dt_model.specs.Steps.{◌>>=◌, need, found}
 use Rattle.dt_index.specs.Known.{place_of}
 use Rattle.dt_index.specs.Resolve.{parsed_of}
+use Rattle.dt_place.specs.MachineLine as machine_lines
+use Rattle.dt_place.specs.PlaceLine.{form_of, placed_of}
 use Rattle.dt_job.specs.declared.outputs.Show.TheVariants.{Print}
 use Rattle.dt_job.specs.declared.phases.Phase.TheVariants as phase
-use Rattle.dt_job.specs.Contents.{position_count_of, is_given, known_of, with_values}
+use Rattle.dt_job.specs.Contents.{is_given, is_placed, known_of, order_of, position_count_of, with_placement, with_values}
 use Rattle.dt_job.specs.Drafts.{DraftView}
 use Rattle.dt_job.specs.Fills.{fill_values}
 use Rattle.dt_job.specs.declared.fills.Fill.{Fill}
@@ -39,16 +41,12 @@ distal_line d _ = do
   _ ← need (takes_distal d.phase) cause.OutOfPlace
   Err cause.Syntax
 
--- `machine 1`
-unfoldable pub machine_line : DraftView → List (List ℕ) → Result DraftView Cause
-machine_line d (word ∷ []) = do
+-- `machine DIMENSIONS`, by what stands behind the first word
+unfoldable pub machine_line : DraftView → List ℕ → Result DraftView Cause
+machine_line d text = do
   _ ← need (takes_machine d.phase) cause.OutOfPlace
-  n ← numeral_of word
-  _ ← need (n == 1) cause.Syntax
-  Ok (record d { phase = phase.Declarations })
-machine_line d _ = do
-  _ ← need (takes_machine d.phase) cause.OutOfPlace
-  Err cause.Syntax
+  m ← machine_lines.machine_line (tokens_of text)
+  Ok (record d { machine = Some m; phase = phase.Declarations })
 
 -- a tensor with this name, these extents, and this many level letters
 unfoldable pub declared_in : DraftView → List ℕ → List ℕ → ℕ → Result DraftView Cause
@@ -58,7 +56,7 @@ declared_in d name extents letters = do
   s ← found (shape_of_extents extents) cause.BadShape
   _ ← need (letters == length extents) cause.BadFormat
   _ ← need (nat_le (product extents) 1048576) cause.TooManyStored
-  Ok (record d { tensors = d.tensors ++ (name, record { extents = dims s; values = None }) ∷ [] })
+  Ok (record d { tensors = d.tensors ++ (name, record { extents = dims s; values = None; placement = None }) ∷ [] })
 
 -- `tensor NAME SHAPE` or `tensor NAME SHAPE FORMAT`, with dense levels
 unfoldable pub tensor_line : DraftView → List (List ℕ) → Result DraftView Cause
@@ -75,6 +73,23 @@ tensor_line d (name ∷ shape ∷ format ∷ []) = do
 tensor_line d _ = do
   _ ← need (takes_declaration d.phase) cause.OutOfPlace
   Err cause.Syntax
+
+-- the place of the tensor with this name, which no line has placed yet
+unfoldable pub place_to_set : DraftView → List ℕ → Result ℕ Cause
+place_to_set d name = do
+  k ← found (place_of name (known_of d.tensors)) (cause.UnknownTensor name)
+  _ ← need (not (is_placed d.tensors k)) (cause.Twice name)
+  Ok k
+
+-- `place NAME LETTERS -> LEVEL`, by what stands behind the first word
+unfoldable pub place_line : DraftView → List ℕ → Result DraftView Cause
+place_line d text = do
+  _ ← need (takes_declaration d.phase) cause.OutOfPlace
+  m ← found d.machine cause.OutOfPlace
+  f ← form_of (tokens_of text)
+  k ← place_to_set d f.name
+  p ← placed_of f (order_of d.tensors k) m.levels
+  Ok (record d { tensors = with_placement d.tensors k p })
 
 -- the place of the tensor with this name, which no line has given numbers yet
 unfoldable pub place_to_give : DraftView → List ℕ → Result ℕ Cause
@@ -162,8 +177,9 @@ unfoldable pub words_line : DraftView → List ℕ → List (List ℕ) → Resul
 words_line d rest [] = Ok d
 words_line d rest (word ∷ words) =
     if bytes_eq word (codes "distal") then distal_line d words
-    else if bytes_eq word (codes "machine") then machine_line d words
+    else if bytes_eq word (codes "machine") then machine_line d rest
     else if bytes_eq word (codes "tensor") then tensor_line d words
+    else if bytes_eq word (codes "place") then place_line d rest
     else if bytes_eq word (codes "data") then data_line d words
     else if bytes_eq word (codes "fill") then fill_line d words
     else if bytes_eq word (codes "stmt") then stmt_line d rest

@@ -13,7 +13,13 @@ abbrev pub takes_machine : Phase → Bool
 takes_machine phase.Machine = true
 takes_machine _ = false
 
--- whether a line `tensor`, `data` or `fill` may come
+-- whether the machine is known: its line has come
+abbrev pub knows_machine : Phase → Bool
+knows_machine phase.Version = false
+knows_machine phase.Machine = false
+knows_machine _ = true
+
+-- whether a line `tensor`, `place`, `data` or `fill` may come
 abbrev pub takes_declaration : Phase → Bool
 takes_declaration phase.Declarations = true
 takes_declaration _ = false

@@ -1,14 +1,16 @@
 -- The job that a text is: its lines from first to last.
-use Rattle.std.specs.Prelude.{◌≡◌, ℕ, ◌+◌, List, [], ◌∷◌, if◌then◌else◌, Result, Ok, Err}
+use Rattle.std.specs.Prelude.{◌≡◌, ℕ, ◌+◌, List, [], ◌∷◌, if◌then◌else◌, Option, None, option_map, Result, Ok, Err}
 use Rattle.dt_text.specs.Lines.{lines_of}
 use Rattle.dt_model.specs.declared.cause.Cause.{Cause}
 use Rattle.dt_model.specs.declared.cause.Cause.TheVariants as cause
 use Rattle.dt_model.specs.declared.cause.LineEnd.{LineEnd}
 use Rattle.dt_model.specs.declared.cause.LineEnd.TheVariants as line_ends
+use Rattle.dt_model.specs.Steps.{found}
+use Rattle.dt_place.specs.Machines.{MachineView}
 use Rattle.dt_job.specs.declared.job.Job.{Job}
 use Rattle.dt_job.specs.declared.reading.JobEnd.{JobEnd}
 use Rattle.dt_job.specs.declared.reading.JobEnd.TheVariants as ends
-use Rattle.dt_job.specs.Contents.{names_of, tensors_of}
+use Rattle.dt_job.specs.Contents.{names_of, places_of, tensors_of}
 use Rattle.dt_job.specs.Drafts.{DraftView, empty_draft}
 use Rattle.dt_job.specs.Lines.{bytes_line}
 use Rattle.dt_job.specs.Phases.{is_whole}
@@ -23,13 +25,17 @@ abbrev pub then_lines : {A B : Type 0} → Result A (ℕ × Cause) → (A → Re
 then_lines (Ok x) f = f x
 then_lines (Err e) f = Err e
 
--- the job that a draft is
-abbrev pub whole_job : DraftView → Job
-whole_job d = record { names = names_of d.tensors; tensors = tensors_of d.tensors; stmts = d.stmts; shows = d.shows }
+-- the job of a draft on this machine
+abbrev pub job_on : DraftView → MachineView → Job
+job_on d m = record { machine = m; names = names_of d.tensors; tensors = tensors_of d.tensors; places = places_of d.tensors; stmts = d.stmts; shows = d.shows }
+
+-- the job that a draft is, where its machine is known and no statement is open
+abbrev pub whole_job : DraftView → Option Job
+whole_job d = if is_whole d.phase then option_map (job_on d) d.machine else None
 
 -- the lines from the n-th on: the job, or the first line with a cause
 unfoldable pub lines_from : ℕ → DraftView → List (List ℕ) → Result Job (ℕ × Cause)
-lines_from n d [] = if is_whole d.phase then Ok (whole_job d) else Err (n, cause.Unfinished)
+lines_from n d [] = numbered n (found (whole_job d) cause.Unfinished)
 lines_from n d (bytes ∷ rest) = then_lines (numbered n (bytes_line d bytes)) (λ e. lines_from (n + 1) e rest)
 
 -- the job of a text, or its first line that has a cause, with its first cause

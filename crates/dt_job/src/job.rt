@@ -3,14 +3,17 @@
 use crate::outputs::Shows;
 use dt_base::Names;
 use dt_model::Stmts;
+use dt_place::{Machine, Places};
 use dt_tensor::Tensors;
 
-/// A job that was read: the tensors' names, the tensors as they are given, the statements and the outputs, each in the
-/// order of the text.
+/// A job that was read: the machine, and in the order of the text the tensors' names, the tensors as they are given, a
+/// placement for each of them, the statements and the outputs.
 #[derive(Debug, Drop)]
 pub struct Job {
+    pub machine: Machine,
     pub names: Names,
     pub tensors: Tensors,
+    pub places: Places,
     pub stmts: Stmts,
     pub shows: Shows,
 }

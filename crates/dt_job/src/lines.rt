@@ -7,7 +7,7 @@ ghost use Rattle.dt_text.specs.Names.{is_name};
 ghost use Rattle.dt_text.specs.Numbers.{is_numeral};
 ghost use Rattle.dt_text.specs.Spans.{IsToken, token_in};
 ghost use Rattle.dt_model.specs.Steps.{Gives};
-ghost use Rattle.dt_job.specs.Lines.{bytes_line, data_line, declared_in, distal_line, end_line, fill_line, fill_of, filled_in, line_end_of, machine_line, numbers_line, place_to_give, print_line, stmt_line, tensor_line, words_line};
+ghost use Rattle.dt_job.specs.Lines.{bytes_line, data_line, declared_in, distal_line, end_line, fill_line, fill_of, filled_in, line_end_of, machine_line, numbers_line, place_line, place_to_give, place_to_set, print_line, stmt_line, tensor_line, words_line};
 
 use crate::draft::Draft;
 use crate::fills::Fill;
@@ -18,6 +18,7 @@ use crate::shapes::{are_dense_letters, extent_words, level_words, shape_of};
 use dt_base::Name;
 use dt_index::parse_stmt;
 use dt_model::{Cause, LineEnd};
+use dt_place::{parse_machine, read_place, resolve_place};
 use dt_text::{Line, TextEnd, Token, after_word, is_name, tokens, word};
 use std::alloc::Global;
 
@@ -42,25 +43,18 @@ fn read_distal(draft: &mut Draft, text: &[u8], tokens: &[Token]) -> Result<(), L
     }
 }
 
-/// `machine 1`
+/// `machine DIMENSIONS`, by what stands behind the first word
 #[tactic(auto, unfolding(crate::specs::Lines::machine_line))]
-fn read_machine(draft: &mut Draft, text: &[u8], tokens: &[Token]) -> Result<(), LineEnd>
-    requires { All (IsToken (length text.now)) tokens.now }
-    ensures { Gives (λ _. draft.new) result (machine_line draft.old (map (token_in text.now) tokens.now)) }
+fn read_machine(alloc: Global, draft: &mut Draft, text: &[u8]) -> Result<(), LineEnd>
+    requires { length text.now < 2 ^ 32 - 1 }
+    ensures { Gives (λ _. draft.new) result (machine_line draft.old text.now) }
 {
     if !draft.phase().takes_machine() {
         return Err(LineEnd::Refused(Cause::OutOfPlace));
     }
-    match tokens {
-        [nodes] => {
-            if read_numeral(word(text, *nodes))? != 1 {
-                return Err(LineEnd::Refused(Cause::Syntax));
-            }
-            draft.enter(Phase::Declarations);
-            Ok(())
-        }
-        _ => Err(LineEnd::Refused(Cause::Syntax)),
-    }
+    let machine = parse_machine(alloc, text)?;
+    draft.run_on(machine);
+    Ok(())
 }
 
 /// `tensor NAME SHAPE` or `tensor NAME SHAPE FORMAT`, with dense levels
@@ -138,6 +132,40 @@ fn declare(draft: &mut Draft, name: &[u8], extents: &[u64], letters: usize) -> R
         return Err(LineEnd::Refused(Cause::TooManyStored));
     }
     draft.declare(Name::from_slice(name), shape)?;
+    Ok(())
+}
+
+/// The number of the tensor with this name, which no line has placed yet.
+#[tactic(auto, unfolding(crate::specs::Lines::place_to_set))]
+fn place_to_set(draft: &Draft, name: &Name) -> Result<u32, LineEnd>
+    ensures given { Gives (λ k. k) result (place_to_set draft.now name.now) }
+    ensures within { IfOk result (λ k. k < length draft.now.tensors) }
+{
+    let Some(at) = draft.place(name.as_slice()) else {
+        return Err(LineEnd::Refused(Cause::UnknownTensor(name.copied())));
+    };
+    if draft.is_placed(at) {
+        return Err(LineEnd::Refused(Cause::Twice(name.copied())));
+    }
+    Ok(at)
+}
+
+/// `place NAME LETTERS -> LEVEL`, by what stands behind the first word
+#[tactic(auto, unfolding(crate::specs::Lines::place_line))]
+fn read_placement(alloc: Global, draft: &mut Draft, text: &[u8]) -> Result<(), LineEnd>
+    requires { length text.now < 2 ^ 32 - 1 }
+    ensures { Gives (λ _. draft.new) result (place_line draft.old text.now) }
+{
+    if !draft.phase().takes_declaration() {
+        return Err(LineEnd::Refused(Cause::OutOfPlace));
+    }
+    let Some(machine) = draft.machine() else {
+        return Err(LineEnd::Refused(Cause::OutOfPlace));
+    };
+    let form = read_place(alloc, text)?;
+    let at = place_to_set(draft, &form.name)?;
+    let placement = resolve_place(alloc, &form, draft.order(at), machine)?;
+    draft.set_place(at, placement);
     Ok(())
 }
 
@@ -319,6 +347,7 @@ fn read_words(
     tokens: &[Token],
 ) -> Result<(), LineEnd>
     requires fits { length text.now < 2 ^ 32 - 1 }
+    requires rest { length rest.now < 2 ^ 32 - 1 }
     requires tokens { All (IsToken (length text.now)) tokens.now }
     ensures { Gives (λ _. draft.new) result (words_line draft.old rest.now (map (token_in text.now) tokens.now)) }
 {
@@ -329,9 +358,11 @@ fn read_words(
             if first == b"distal".as_slice() {
                 read_distal(draft, text, behind)
             } else if first == b"machine".as_slice() {
-                read_machine(draft, text, behind)
+                read_machine(alloc, draft, rest)
             } else if first == b"tensor".as_slice() {
                 read_tensor(alloc, draft, text, behind)
+            } else if first == b"place".as_slice() {
+                read_placement(alloc, draft, rest)
             } else if first == b"data".as_slice() {
                 read_data(alloc, draft, text, behind)
             } else if first == b"fill".as_slice() {

@@ -1,7 +1,8 @@
 //! Which lines may come when.
 
-ghost use Rattle.std.specs.Prelude.{◌≡◌};
-ghost use Rattle.dt_job.specs.Phases.{is_whole, takes_declaration, takes_distal, takes_end, takes_machine, takes_output, takes_stmt};
+ghost use Rattle.std.specs.Prelude.{◌≡◌, true, false};
+ghost use Rattle.std.specs.Bool.{OnTrue};
+ghost use Rattle.dt_job.specs.Phases.{is_whole, knows_machine, takes_declaration, takes_distal, takes_end, takes_machine, takes_output, takes_stmt};
 
 /// Where the reading of a job stands.
 #[derive(Clone, Copy, Debug, PartialEq, Eq)]
@@ -22,18 +23,20 @@ pub enum Phase {
 
 impl Phase {
     pub fn takes_distal(self) -> bool
-        ensures { result ≡ takes_distal self }
+        ensures value { result ≡ takes_distal self }
+        ensures known { OnTrue result (knows_machine self ≡ false) }
     {
         matches!(self, Phase::Version)
     }
 
     pub fn takes_machine(self) -> bool
-        ensures { result ≡ takes_machine self }
+        ensures value { result ≡ takes_machine self }
+        ensures known { OnTrue result (knows_machine self ≡ false) }
     {
         matches!(self, Phase::Machine)
     }
 
-    /// Whether a line `tensor`, `data` or `fill` may come.
+    /// Whether a line `tensor`, `place`, `data` or `fill` may come.
     pub fn takes_declaration(self) -> bool
         ensures { result ≡ takes_declaration self }
     {
@@ -41,19 +44,22 @@ impl Phase {
     }
 
     pub fn takes_stmt(self) -> bool
-        ensures { result ≡ takes_stmt self }
+        ensures value { result ≡ takes_stmt self }
+        ensures known { OnTrue result (knows_machine self ≡ true) }
     {
         matches!(self, Phase::Declarations | Phase::Statements)
     }
 
     pub fn takes_end(self) -> bool
-        ensures { result ≡ takes_end self }
+        ensures value { result ≡ takes_end self }
+        ensures known { OnTrue result (knows_machine self ≡ true) }
     {
         matches!(self, Phase::Open)
     }
 
     pub fn takes_output(self) -> bool
-        ensures { result ≡ takes_output self }
+        ensures value { result ≡ takes_output self }
+        ensures known { OnTrue result (knows_machine self ≡ true) }
     {
         matches!(
             self,
@@ -63,7 +69,8 @@ impl Phase {
 
     /// Whether the job may end here.
     pub fn is_whole(self) -> bool
-        ensures { result ≡ is_whole self }
+        ensures value { result ≡ is_whole self }
+        ensures known { OnTrue result (knows_machine self ≡ true) }
     {
         matches!(
             self,

@@ -3,6 +3,7 @@
 use crate::{JobEnd, Show, read_job};
 use dt_base::{Name, NoMemory};
 use dt_model::Cause;
+use dt_place::{Placement, Symbol};
 use std::alloc::Global;
 use std::test::Fail;
 
@@ -46,6 +47,7 @@ enum Fault {
     BadNumber,
     Unfinished,
     Version,
+    BadDim,
     NameTaken(u8),
     TooManyTensors,
     BadShape,
@@ -53,6 +55,11 @@ enum Fault {
     TooManyStored,
     UnknownTensor(u8),
     Twice(u8),
+    WrongOrder(u8),
+    NameTwice(u8),
+    WrongDims,
+    UnknownName(u8),
+    NameTwiceInLevel(u8),
     WrongCount,
     TooManyStatements,
     ExtentClash(u8),
@@ -70,6 +77,7 @@ fn named(cause: &Cause) -> Fault {
         Cause::BadNumber => Fault::BadNumber,
         Cause::Unfinished => Fault::Unfinished,
         Cause::Version => Fault::Version,
+        Cause::BadDim => Fault::BadDim,
         Cause::NameTaken(name) => Fault::NameTaken(letter(name)),
         Cause::TooManyTensors => Fault::TooManyTensors,
         Cause::BadShape => Fault::BadShape,
@@ -77,6 +85,11 @@ fn named(cause: &Cause) -> Fault {
         Cause::TooManyStored => Fault::TooManyStored,
         Cause::UnknownTensor(name) => Fault::UnknownTensor(letter(name)),
         Cause::Twice(name) => Fault::Twice(letter(name)),
+        Cause::WrongOrder(name) => Fault::WrongOrder(letter(name)),
+        Cause::NameTwice(name) => Fault::NameTwice(letter(name)),
+        Cause::WrongDims => Fault::WrongDims,
+        Cause::UnknownName(name) => Fault::UnknownName(letter(name)),
+        Cause::NameTwiceInLevel(name) => Fault::NameTwiceInLevel(letter(name)),
         Cause::WrongCount => Fault::WrongCount,
         Cause::TooManyStatements => Fault::TooManyStatements,
         Cause::ExtentClash(name) => Fault::ExtentClash(letter(name)),
@@ -183,7 +196,7 @@ fn statements_and_outputs_may_be_any_number(rt: HostRuntime) -> Result<(), Fail>
 
 #[test]
 fn the_first_line_with_a_cause_is_told(rt: HostRuntime) -> Result<(), Fail> {
-    let cases: [(usize, usize, &[u8], u32, Fault); 27] = [
+    let cases: [(usize, usize, &[u8], u32, Fault); 29] = [
         (1, 10, b"", 1, Fault::Unfinished),
         (2, 10, b"", 2, Fault::Unfinished),
         (9, 10, b"", 9, Fault::Unfinished),
@@ -194,10 +207,11 @@ fn the_first_line_with_a_cause_is_told(rt: HostRuntime) -> Result<(), Fail> {
         (1, 1, b"machine 1\n", 1, Fault::OutOfPlace),
         (2, 2, b"distal 1\n", 2, Fault::OutOfPlace),
         (2, 2, b"tensor D 2\n", 2, Fault::OutOfPlace),
-        (2, 2, b"machine 2\n", 2, Fault::Syntax),
+        (2, 2, b"machine 2x2\nmachine 0\n", 3, Fault::OutOfPlace),
+        (2, 2, b"place A xy -> xy\n", 2, Fault::OutOfPlace),
         (2, 2, b"machine \x80 1\n", 2, Fault::BadByte(9)),
         (3, 3, b"machine 1\n", 3, Fault::OutOfPlace),
-        (3, 3, b"place A xy -> xy\n", 3, Fault::UnknownWord),
+        (3, 3, b"entries A 0,0=1\n", 3, Fault::UnknownWord),
         (8, 8, b"end\n", 8, Fault::OutOfPlace),
         (9, 9, b"print A\n", 9, Fault::OutOfPlace),
         (9, 9, b"stmt A(i,j) = B(i,j)\n", 9, Fault::OutOfPlace),
@@ -205,6 +219,7 @@ fn the_first_line_with_a_cause_is_told(rt: HostRuntime) -> Result<(), Fail> {
         (9, 9, b"end 1\n", 9, Fault::Syntax),
         (9, 9, b"end\nend\n", 10, Fault::OutOfPlace),
         (9, 9, b"end\ntensor D 2\n", 10, Fault::OutOfPlace),
+        (9, 9, b"end\nplace Z\n", 10, Fault::OutOfPlace),
         (10, 10, b"print\n", 10, Fault::Syntax),
         (10, 10, b"print Z\n", 10, Fault::UnknownTensor(b'Z')),
         (10, 10, b"print A\nstmt A(i,j) = 1\n", 11, Fault::OutOfPlace),
@@ -267,6 +282,186 @@ fn declarations_are_refused(rt: HostRuntime) -> Result<(), Fail> {
         assert!(rt; text.len() < 1000);
         let end = read_job(rt.alloc(), text.as_slice()).err().ok_or("a job")?;
         assert_eq!(rt; refusal(&end), Some((7, cause)));
+    }
+    Ok(())
+}
+
+#[test]
+fn machines_have_1_to_64_nodes(rt: HostRuntime) -> Result<(), Fail> {
+    let machines: [(&[u8], &[u32], u32); 6] = [
+        (b"machine 1\n", &[1], 1),
+        (b"machine 2x2\n", &[2, 2], 4),
+        (b" machine\t02x3x1 \n", &[2, 3, 1], 6),
+        (b"machine 64\n", &[64], 64),
+        (b"machine 2x2x2x2x2x2\n", &[2, 2, 2, 2, 2, 2], 64),
+        (b"machine 1x64x1\n", &[1, 64, 1], 64),
+    ];
+    for (line, dims, nodes) in machines {
+        let text = text_with(rt.alloc(), 2, 2, line)?;
+        assert!(rt; text.len() < 1000);
+        let job = read_job(rt.alloc(), text.as_slice())?;
+        assert_eq!(rt; job.machine.dims(), dims);
+        assert_eq!(rt; job.machine.nodes(), nodes);
+    }
+    let refused: [(&[u8], Fault); 17] = [
+        (b"machine\n", Fault::Syntax),
+        (b"machine 2 2\n", Fault::Syntax),
+        (b"machine 2 / 2\n", Fault::Syntax),
+        (b"machine 2x2/2\n", Fault::Syntax),
+        (b"machine 2 memory 8\n", Fault::Syntax),
+        (b"machine 2x\n", Fault::Syntax),
+        (b"machine x\n", Fault::Syntax),
+        (b"machine 2,2\n", Fault::Syntax),
+        (b"machine 0xa\n", Fault::Syntax),
+        (b"machine 18446744073709551616xa\n", Fault::Syntax),
+        (b"machine 18446744073709551616\n", Fault::BadNumber),
+        (b"machine 0x18446744073709551616\n", Fault::BadNumber),
+        (b"machine 0\n", Fault::BadDim),
+        (b"machine 2x0\n", Fault::BadDim),
+        (b"machine 65\n", Fault::BadDim),
+        (b"machine 2x33\n", Fault::BadDim),
+        (b"machine 1x1x1x1x1x1x1\n", Fault::BadDim),
+    ];
+    for (line, cause) in refused {
+        let text = text_with(rt.alloc(), 2, 2, line)?;
+        assert!(rt; text.len() < 1000);
+        let end = read_job(rt.alloc(), text.as_slice()).err().ok_or("a job")?;
+        assert_eq!(rt; refusal(&end), Some((2, cause)));
+    }
+    Ok(())
+}
+
+/// Whether a tensor is placed by these symbols, and on the first node where there are none.
+fn is_placed(placement: &Placement, symbols: &[Symbol]) -> bool {
+    match placement {
+        Placement::FirstNode => symbols.is_empty(),
+        Placement::ByNames(names) => names.as_slice() == symbols,
+        Placement::ByPositions => false,
+    }
+}
+
+#[test]
+fn tensors_are_placed_where_their_lines_say(rt: HostRuntime) -> Result<(), Fail> {
+    // Two tensors, of the orders 2 and 1.
+    let cases: [(&[u8], &[Symbol], &[Symbol]); 7] = [
+        (b"machine 4\ntensor A 2x4\ntensor b 3\n", &[], &[]),
+        (
+            b"machine 2x2\ntensor A 2x4\ntensor b 3\nplace A xy -> yx\n",
+            &[Symbol::Along(1), Symbol::Along(0)],
+            &[],
+        ),
+        (
+            b"machine 4\ntensor A 2x4\ntensor b 3\nplace b x -> x\n",
+            &[],
+            &[Symbol::Along(0)],
+        ),
+        (
+            b"machine 64\ntensor A 2x4\nplace A xy -> y\ntensor b 3\nplace b x -> x\n",
+            &[Symbol::Along(1)],
+            &[Symbol::Along(0)],
+        ),
+        // A placement and numbers may come in either order.
+        (
+            b"machine 4\ntensor A 2x4\ntensor b 3\nplace b i -> i\ndata b 7 8 9\n",
+            &[],
+            &[Symbol::Along(0)],
+        ),
+        (
+            b"machine 4\ntensor A 2x4\ntensor b 3\ndata b 7 8 9\n place\tb i  -> i\r\n",
+            &[],
+            &[Symbol::Along(0)],
+        ),
+        (
+            b"machine 1x2\ntensor A 2x4\ntensor b 3\nfill A ramp\nplace A ab -> ab\n",
+            &[Symbol::Along(0), Symbol::Along(1)],
+            &[],
+        ),
+    ];
+    for (lines, first, second) in cases {
+        let text = text_with(rt.alloc(), 2, 10, lines)?;
+        assert!(rt; text.len() < 1000);
+        let job = read_job(rt.alloc(), text.as_slice())?;
+        let places = job.places.as_slice();
+        assert_eq!(rt; places.len(), 2);
+        assert!(rt; is_placed(&places[0], first));
+        assert!(rt; is_placed(&places[1], second));
+    }
+    Ok(())
+}
+
+#[test]
+fn a_placed_tensor_keeps_its_numbers(rt: HostRuntime) -> Result<(), Fail> {
+    let cases: [&[u8]; 2] = [
+        b"tensor b 3\nplace b x -> x\ndata b 7 8 9\n",
+        b"tensor b 3\ndata b 7 8 9\nplace b x -> x\n",
+    ];
+    for lines in cases {
+        let text = text_with(rt.alloc(), 3, 10, lines)?;
+        assert!(rt; text.len() < 1000);
+        let job = read_job(rt.alloc(), text.as_slice())?;
+        assert_eq!(rt; job.tensors.len(), 1);
+        assert_eq!(rt; job.tensors.get(0).values(), [7, 8, 9].as_slice());
+    }
+    Ok(())
+}
+
+/// Eight lines on a machine of two dimensions, the last of which places `A`, and then these lines.
+fn behind_placed(alloc: Global, lines: &[u8]) -> Result<Vec<u8>, NoMemory> {
+    let mut text = Vec::new(alloc);
+    text.extend_from_slice(b"distal 1\nmachine 2x2\ntensor A 2x2\ntensor b 3\n")?;
+    text.extend_from_slice(b"tensor s scalar\ntensor C 2x2\ntensor D 2x2x2x2\n")?;
+    text.extend_from_slice(b"place A xy -> xy\n")?;
+    text.extend_from_slice(lines)?;
+    Ok(text)
+}
+
+#[test]
+fn places_are_refused(rt: HostRuntime) -> Result<(), Fail> {
+    let cases: [(&[u8], u32, Fault); 33] = [
+        (b"place\n", 9, Fault::Syntax),
+        (b"place C xy xy\n", 9, Fault::Syntax),
+        (b"place C xy -> x y\n", 9, Fault::Syntax),
+        (b"place C xy -> xy / xy\n", 9, Fault::Syntax),
+        (b"place C xy => xy\n", 9, Fault::Syntax),
+        (b"place C xY -> xy\n", 9, Fault::Syntax),
+        (b"place C xy -> x*\n", 9, Fault::Syntax),
+        (b"place C xy -> x0\n", 9, Fault::Syntax),
+        (b"place C xy -> -\n", 9, Fault::Syntax),
+        (b"place C xy -> nz\n", 9, Fault::Syntax),
+        (b"place 2C xy -> xy\n", 9, Fault::Syntax),
+        (b"place Z2 xy ->\n", 9, Fault::Syntax),
+        (b"place Z xy -> xy\n", 9, Fault::UnknownTensor(b'Z')),
+        // Each test comes before those behind it.
+        (b"place Z xx -> a\n", 9, Fault::UnknownTensor(b'Z')),
+        (b"place A xy -> xy\n", 9, Fault::Twice(b'A')),
+        (b"place A xxx -> a\n", 9, Fault::Twice(b'A')),
+        (
+            b"place C xy -> yx\nplace C xy -> yx\n",
+            10,
+            Fault::Twice(b'C'),
+        ),
+        (b"place b xy -> xy\n", 9, Fault::WrongOrder(b'b')),
+        (b"place b xx -> a\n", 9, Fault::WrongOrder(b'b')),
+        (b"place b - -> xy\n", 9, Fault::WrongOrder(b'b')),
+        (b"place s x -> xy\n", 9, Fault::WrongOrder(b's')),
+        (b"place C xx -> xx\n", 9, Fault::NameTwice(b'x')),
+        (b"place D yxxy -> a\n", 9, Fault::NameTwice(b'x')),
+        (b"place C xy -> x\n", 9, Fault::WrongDims),
+        (b"place C xy -> zzz\n", 9, Fault::WrongDims),
+        (b"place b x -> x\n", 9, Fault::WrongDims),
+        (b"place C xy -> xz\n", 9, Fault::UnknownName(b'z')),
+        (b"place C xy -> zz\n", 9, Fault::UnknownName(b'z')),
+        (b"place s - -> xy\n", 9, Fault::UnknownName(b'x')),
+        (b"place C xy -> xx\n", 9, Fault::NameTwiceInLevel(b'x')),
+        (b"place D abcd -> dd\n", 9, Fault::NameTwiceInLevel(b'd')),
+        (b"place b x -> xx\n", 9, Fault::NameTwiceInLevel(b'x')),
+        (b"print C\nplace Z\n", 10, Fault::OutOfPlace),
+    ];
+    for (lines, line, cause) in cases {
+        let text = behind_placed(rt.alloc(), lines)?;
+        assert!(rt; text.len() < 1000);
+        let end = read_job(rt.alloc(), text.as_slice()).err().ok_or("a job")?;
+        assert_eq!(rt; refusal(&end), Some((line, cause)));
     }
     Ok(())
 }

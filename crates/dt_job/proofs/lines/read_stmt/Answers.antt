@@ -1,5 +1,3 @@
-use Rattle.dt_job.specs.Contents.{known_of}
-use Rattle.dt_job.proofs.Unread.{parsed_unread}
 use Rattle.dt_job.proofs.ContentFacts.{known_shapes}
 use Rattle.dt_job.proofs.lines.read_stmt.Goals as goal
 
@@ -9,5 +7,5 @@ state-requires-clause-stands c = record {
   used = c.in_ok-stmt.ensures.used;
   even = c.in_ok-stmt.ensures.even;
   small = c.in_ok-stmt.ensures.small;
-  unread = parsed_unread (known_of c.args.draft.now.tensors) c.args.text.now _ c.in_ok-stmt.ensures.given;
+  unread = c.in_ok-stmt.ensures.unread;
 }

@@ -4,6 +4,7 @@ use Rattle.indexmap.proofs.CallerLemmas.{insert_entry-new}
 use Rattle.dt_model.specs.Shape.{dims}
 use Rattle.dt_index.specs.Known.{place_of}
 use Rattle.dt_job.specs.Contents.{Content, Contents, known_of}
+use Rattle.dt_job.specs.contracts.draft.Draft.{the_view}
 use Rattle.dt_job.specs.Drafts.{DraftView}
 use Rattle.dt_job.proofs.ContentFacts.{absent_name, declared_draft}
 use Rattle.dt_job.proofs.draft.Draft.declare.Goals as goal
@@ -15,11 +16,11 @@ added c =
 
 pub invariant_of-self-2 : goal.invariant_of-self-2
 invariant_of-self-2 c =
-    declared_draft (record { tensors = c.self.inside.tensors.entries; stmts = c.self.inside.stmts; shows = c.self.inside.shows; phase = c.self.inside.phase }) c.args.name c.new.result c.insert.new.self.entries
-    (let P : DraftView → Type 0 = λ d. length d.tensors < 32 in subst P (sym c.self.view_is) c.requires.few) c.self.invariant (added c)
+    declared_draft (the_view c.self.inside) c.args.name c.new.result c.insert.new.self.entries
+    (let P : DraftView → Type 0 = λ d. length d.tensors < 32 in subst P (sym c.self.view_is) c.requires.few) c.self.invariant (ap (λ (x : Content). x.placement) c.new.ensures) (added c)
 
 pub returns-clause-ok : goal.returns-clause-ok
 returns-clause-ok c =
-    ap (λ (ts : Contents). record { tensors = ts; stmts = c.self.inside.stmts; shows = c.self.inside.shows; phase = c.self.inside.phase })
+    ap (λ (ts : Contents). record (the_view c.self.inside) { tensors = ts })
     (added c ∙ ap (λ (x : Content). c.self.inside.tensors.entries ++ (c.args.name, x) ∷ []) c.new.ensures)
-    ∙ ap (λ (d : DraftView). record d { tensors = d.tensors ++ (c.args.name, record { extents = dims c.args.shape; values = None }) ∷ [] }) c.self.view_is
+    ∙ ap (λ (d : DraftView). record d { tensors = d.tensors ++ (c.args.name, record { extents = dims c.args.shape; values = None; placement = None }) ∷ [] }) c.self.view_is

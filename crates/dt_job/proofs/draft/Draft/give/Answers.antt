@@ -1,11 +1,19 @@
-use Rattle.std.proofs.Common.{◌≡◌, ap, slice_get, option_map, Some, subst, sym}
-use Rattle.dt_job.specs.Contents.{Content}
+use Rattle.std.proofs.Common.{ap, ◌∙◌}
+use Rattle.dt_job.specs.Contents.{Content, Contents, with_values}
+use Rattle.dt_job.specs.contracts.draft.Draft.{the_view}
 use Rattle.dt_job.specs.Drafts.{DraftView}
-use Rattle.dt_job.proofs.ContentFacts.{given_draft}
+use Rattle.dt_job.proofs.ContentFacts.{content_at, given_draft, given_tensors}
 use Rattle.dt_job.proofs.draft.Draft.give.Goals as goal
 
 pub invariant_of-self : goal.invariant_of-self
 invariant_of-self c =
-    given_draft (record { tensors = c.self.inside.tensors.entries; stmts = c.self.inside.stmts; shows = c.self.inside.shows; phase = c.self.inside.phase }) c.args.at c.tensor.result.now c.with_values-given.result
-    (let P : DraftView → Type 0 = λ d. option_map (λ t. t.1) (slice_get d.tensors c.args.at) ≡ Some c.tensor.result.now in subst P (sym c.self.view_is) c.tensor.ensures)
-    (ap (λ (x : Content). x.extents) c.with_values-given.ensures) c.self.invariant
+    given_draft (the_view c.self.inside) c.args.at c.index_mut.result.now c.give.new.self
+    (content_at c.self.inside.tensors.entries c.args.at c.index_mut.result.now c.index_mut.ensures.value)
+    (ap (λ (x : Content). x.extents) c.give.ensures) (ap (λ (x : Content). x.placement) c.give.ensures) c.self.invariant
+
+pub returns : goal.returns
+returns c =
+    ap (λ (ts : Contents). record (the_view c.self.inside) { tensors = ts })
+    (given_tensors c.self.inside.tensors.entries c.args.at c.index_mut.result.now c.give.new.self c.args.values.items
+    (content_at c.self.inside.tensors.entries c.args.at c.index_mut.result.now c.index_mut.ensures.value) c.give.ensures)
+    ∙ ap (λ (d : DraftView). record d { tensors = with_values d.tensors c.args.at c.args.values.items }) c.self.view_is
