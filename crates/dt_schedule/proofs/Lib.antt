@@ -1,0 +1,3 @@
+mod EachFacts
+mod Forms
+mod LineFacts

@@ -1,0 +1,4 @@
+pub mod Commands
+pub mod CommandForms
+pub mod CommandLaws
+pub mod CutStored

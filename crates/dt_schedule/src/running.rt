@@ -1,0 +1,60 @@
+//! A command line on a schedule.
+
+ghost use Rattle.std.specs.Prelude.{◌≡◌, ◌-◌, ◌^◌, ◌<◌, IfOk, length};
+ghost use Rattle.dt_text.specs.Tokens.{tokens_of};
+ghost use Rattle.dt_nest.specs.Commands.{KeepsSum};
+ghost use Rattle.dt_nest.specs.FitsStored.{FitsStored};
+ghost use Rattle.dt_schedule.specs.Commands.{AnswersLine, command_line, NamesLoops};
+
+use crate::commands::Command;
+use crate::reading::read_command;
+use dt_base::Names;
+use dt_model::{LineEnd, Locator};
+use dt_nest::{Rewrite, RewriteEnd, Sched};
+use dt_text::words;
+use std::alloc::Global;
+
+/// Does what a command line says to a schedule, whatever tensors there are.
+#[tactic(auto, unfolding(crate::specs::Commands::command_line))]
+pub(crate) fn commanded(
+    alloc: Global,
+    sched: Sched,
+    text: &[u8],
+    grid: &[u32],
+) -> Result<Sched, RewriteEnd>
+    requires { length text.now < 2 ^ 32 - 1 }
+    ensures answers { AnswersLine sched (command_line sched grid.now (tokens_of text.now)) result }
+    ensures keeps { IfOk result (λ s. KeepsSum sched s) }
+{
+    let _lawful = sched.parts();
+    let tokens = match words(alloc, text) {
+        Ok(tokens) => tokens,
+        Err(_) => return Err(RewriteEnd::NoMemory(sched)),
+    };
+    match read_command(alloc, text, tokens.as_slice(), &sched, grid) {
+        Ok(command) => command.apply(alloc, sched),
+        Err(LineEnd::Refused(cause)) => Err(RewriteEnd::Illegal(sched, cause)),
+        Err(LineEnd::NoMemory) => Err(RewriteEnd::NoMemory(sched)),
+    }
+}
+
+/// Does what a command line says. `text` is the whole line, without its LF, and has no byte that a line may not have;
+/// `grid` has the machine's dimensions. A word that begins no command is UnknownWord.
+pub fn run_command<L: Locator>(
+    alloc: Global,
+    sched: Sched,
+    text: &[u8],
+    grid: &[u32],
+    loc: &L,
+    tensors: &Names,
+) -> Result<Sched, RewriteEnd>
+    requires line { length text.now < 2 ^ 32 - 1 }
+    requires names { tensors.now ≡ sched.tensors }
+    requires located { FitsStored (L.tensors loc.now) sched }
+    ensures answers { AnswersLine sched (command_line sched grid.now (tokens_of text.now)) result }
+    ensures keeps { IfOk result (λ s. KeepsSum sched s) }
+    ensures fits { IfOk result (λ s. FitsStored (L.tensors loc.now) s) }
+{
+    let _lawful = sched.parts();
+    commanded(alloc, sched, text, grid)
+}
