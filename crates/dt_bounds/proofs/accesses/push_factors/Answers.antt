@@ -1,0 +1,12 @@
+use Rattle.std.proofs.Common.{subst, sym}
+use Rattle.dt_model.specs.declared.stmt.Factor.{Factor}
+use Rattle.dt_nest.specs.Tree.{factor_accesses}
+use Rattle.std.specs.List.{AllByRecursion}
+use Rattle.dt_bounds.specs.Points.{AreValuedAt, HasValueAt}
+use Rattle.dt_bounds.proofs.Additions.{all_part}
+use Rattle.dt_bounds.proofs.accesses.push_factors.Goals as goal
+
+pub push_factor-requires-clause-valued : goal.push_factor-requires-clause-valued
+push_factor-requires-clause-valued g c =
+    subst (λ (f : Factor). AreValuedAt c.args.visits.now c.args.lane (factor_accesses f)) (sym c.factor-item.is)
+    (all_part (λ a. AllByRecursion (HasValueAt c.args.visits.now c.args.lane) a.vars) factor_accesses c.args.factors.now c.loop-factor.factor-index c.factor-item.result c.requires.valued c.loop-factor-test.true)

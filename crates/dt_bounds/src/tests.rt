@@ -1,0 +1,173 @@
+//! Needed words of statements' schedules, worked out by hand.
+
+use crate::statements::needed_in;
+use dt_base::{Extents, NoMemory, Vars};
+use dt_model::{Access, Factor, Factors, Shape, Stmt, Term, Terms};
+use dt_runs::Runs;
+use dt_tensor::{Tensor, Tensors};
+use std::alloc::Global;
+use std::test::Fail;
+
+/// A factor: a tensor at these variables, or a literal.
+#[derive(Clone, Copy)]
+enum Part<'a> {
+    At(u32, &'a [u32]),
+    Number(u64),
+}
+
+/// A statement over tensors of these shapes.
+#[derive(Clone, Copy)]
+struct Written<'a> {
+    extents: &'a [u32],
+    shapes: &'a [&'a [u32]],
+    left: (u32, &'a [u32]),
+    adds: bool,
+    terms: &'a [&'a [Part<'a>]],
+}
+
+/// A path, a tensor, and the positions that are needed of it in the visits that extend the path.
+type Row<'a> = (&'a [u32], u32, &'a [u32]);
+
+fn access(alloc: Global, tensor: u32, vars: &[u32]) -> Result<Access, NoMemory> {
+    let vars = Vars::from_slice(alloc, vars)?;
+    Ok(Access { tensor, vars })
+}
+
+fn term(alloc: Global, parts: &[Part]) -> Result<Term, NoMemory> {
+    let mut factors = Factors::new(alloc);
+    for part in parts {
+        let factor = match *part {
+            Part::Number(n) => Factor::Literal(n),
+            Part::At(tensor, vars) => Factor::Read(access(alloc, tensor, vars)?),
+        };
+        factors.push(factor)?;
+    }
+    Ok(Term {
+        minus: false,
+        factors,
+    })
+}
+
+fn statement(alloc: Global, written: &Written) -> Result<Stmt, NoMemory> {
+    let (tensor, vars) = written.left;
+    let mut terms = Terms::new(alloc);
+    for parts in written.terms {
+        terms.push(term(alloc, *parts)?)?;
+    }
+    Ok(Stmt {
+        lhs: access(alloc, tensor, vars)?,
+        adds: written.adds,
+        terms,
+        extents: Extents::from_slice(alloc, written.extents)?,
+    })
+}
+
+/// Tensors of these shapes, with no number but 0.
+fn zeros(alloc: Global, shapes: &[&[u32]]) -> Result<Tensors, Fail> {
+    let mut list = Vec::new(alloc);
+    for extents in shapes {
+        let shape = Shape::from_extents(*extents).ok_or("no shape")?;
+        let count = shape.count();
+        if count > 1048576 {
+            return Err("too many")?;
+        }
+        list.push(Tensor::dense(shape, vec![in alloc; 0u64; count as usize]?))?;
+    }
+    Ok(Tensors::from_list(list))
+}
+
+/// Whether the set has these numbers, which ascend.
+fn has(runs: &Runs, positions: &[u32]) -> bool {
+    let mut place = 0;
+    for x in positions {
+        if runs.at(place) != Some(*x) {
+            return false;
+        }
+        place = place.saturating_add(1);
+    }
+    runs.count() == place
+}
+
+/// Whether the needed words are those of the rows.
+fn agree(alloc: Global, written: &Written, rows: &[Row]) -> Result<bool, Fail> {
+    let stmt = statement(alloc, written)?;
+    let tensors = zeros(alloc, written.shapes)?;
+    for (path, tensor, positions) in rows {
+        let runs = needed_in(alloc, &stmt, &tensors, *tensor, *path)?.ok_or("no words")?;
+        if !has(&runs, *positions) {
+            return Ok(false);
+        }
+    }
+    Ok(true)
+}
+
+const A: u32 = 0;
+
+const B: u32 = 1;
+
+const C: u32 = 2;
+
+const ALL: [u32; 16] = [0, 1, 2, 3, 4, 5, 6, 7, 8, 9, 10, 11, 12, 13, 14, 15];
+
+/// A(i,j) = B(i,k) * C(k,j) on 4x4 matrices.
+const PRODUCT: Written = Written {
+    extents: &[4, 4, 4],
+    shapes: &[&[4, 4], &[4, 4], &[4, 4]],
+    left: (A, &[0, 1]),
+    adds: false,
+    terms: &[&[Part::At(B, &[0, 2]), Part::At(C, &[2, 1])]],
+};
+
+const PRODUCT_WORDS: [Row; 9] = [
+    (&[], B, &ALL),
+    (&[1], B, &[4, 5, 6, 7]),
+    (&[1, 2], B, &[4, 5, 6, 7]),
+    (&[1, 2, 3], B, &[7]),
+    (&[1], C, &ALL),
+    (&[1, 2], C, &[2, 6, 10, 14]),
+    (&[1, 2, 3], C, &[14]),
+    (&[1], A, &[4, 5, 6, 7]),
+    (&[1, 2], A, &[6]),
+];
+
+/// A(i,j) = B(i,j) * B(j,i) on 3x3 matrices.
+const TWICE: Written = Written {
+    extents: &[3, 3],
+    shapes: &[&[3, 3], &[3, 3]],
+    left: (A, &[0, 1]),
+    adds: false,
+    terms: &[&[Part::At(B, &[0, 1]), Part::At(B, &[1, 0])]],
+};
+
+const TWICE_WORDS: [Row; 5] = [
+    (&[], B, &[0, 1, 2, 3, 4, 5, 6, 7, 8]),
+    (&[1], B, &[1, 3, 4, 5, 7]),
+    (&[0, 2], B, &[2, 6]),
+    (&[2, 2], B, &[8]),
+    (&[0, 2], A, &[2]),
+];
+
+/// A() += 3 * B(i) + C() over four numbers.
+const SCALARS: Written = Written {
+    extents: &[4],
+    shapes: &[&[], &[4], &[], &[4]],
+    left: (A, &[]),
+    adds: true,
+    terms: &[&[Part::Number(3), Part::At(B, &[0])], &[Part::At(C, &[])]],
+};
+
+const SCALAR_WORDS: [Row; 5] = [
+    (&[], A, &[0]),
+    (&[2], A, &[0]),
+    (&[2], B, &[2]),
+    (&[2], C, &[0]),
+    (&[2], 3, &[]),
+];
+
+#[test]
+fn words_are_those_of_the_visits(rt: HostRuntime) -> Result<(), Fail> {
+    assert!(rt; agree(rt.alloc(), &PRODUCT, &PRODUCT_WORDS)?);
+    assert!(rt; agree(rt.alloc(), &TWICE, &TWICE_WORDS)?);
+    assert!(rt; agree(rt.alloc(), &SCALARS, &SCALAR_WORDS)?);
+    Ok(())
+}
