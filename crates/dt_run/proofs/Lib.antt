@@ -3,7 +3,13 @@ pub mod Counts
 pub mod Effects
 pub mod Fronts
 pub mod Joins
+pub mod Parts
 pub mod Pushes
 pub mod RowFacts
 pub mod Runs
 pub mod SmallStmts
+pub mod VisitFacts
+pub mod VisitLeaves
+pub mod VisitSteps
+pub mod VisitSums
+pub mod WholeSets

@@ -1,5 +1,7 @@
+pub mod AtVisit
 pub mod CauseText
 pub mod Clauses
 pub mod Limits
 pub mod Outcome
 pub mod TensorText
+pub mod Visiting

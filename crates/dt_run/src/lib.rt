@@ -2,6 +2,7 @@
 #![tactic(auto)]
 
 mod answering;
+mod at_visit;
 mod limits;
 mod refusal;
 mod short_text;
@@ -9,9 +10,11 @@ mod statements;
 mod status;
 mod tensor_text;
 mod top;
+mod visiting;
 
 pub use status::Status;
 pub use top::distal;
+pub use visiting::{add_visits, run_part};
 
 #[cfg(test)]
 mod tests;

@@ -78,7 +78,7 @@ fn prints_the_product(rt: HostRuntime) -> Result<(), Fail> {
 
 #[test]
 fn refuses_the_first_line_with_a_cause(rt: HostRuntime) -> Result<(), Fail> {
-    let changes: [(usize, &[u8], &[u8]); 9] = [
+    let changes: [(usize, &[u8], &[u8]); 13] = [
         (
             8,
             b"stmt A(i,j) = B(i,k) * D(k,j)",
@@ -87,7 +87,11 @@ fn refuses_the_first_line_with_a_cause(rt: HostRuntime) -> Result<(), Fail> {
         (3, b"tensor A 3x2", b"refused line 8: ExtentClash i\n"),
         (9, b"split i io ii 2", b"refused line 9: UnknownWord\n"),
         (1, b"distal 2", b"refused line 1: Version\n"),
-        (2, b"machine 2", b"refused line 2: Syntax\n"),
+        (2, b"machine 2 / 2", b"refused line 2: Syntax\n"),
+        (2, b"machine 2x33", b"refused line 2: BadDim\n"),
+        (7, b"place C x -> x", b"refused line 7: WrongOrder C\n"),
+        (7, b"place C xx -> x", b"refused line 7: NameTwice x\n"),
+        (7, b"place C xy -> xy", b"refused line 7: WrongDims\n"),
         (6, b"data B 1 2 3", b"refused line 6: WrongCount\n"),
         (7, b"data B 5 6 7 8", b"refused line 7: Twice B\n"),
         (9, b"# no end", b"refused line 10: OutOfPlace\n"),
@@ -103,7 +107,7 @@ fn refuses_the_first_line_with_a_cause(rt: HostRuntime) -> Result<(), Fail> {
 
 #[test]
 fn whole_jobs_print_their_answers(rt: HostRuntime) -> Result<(), Fail> {
-    let jobs: [(&[u8], &[u8]); 9] = [
+    let jobs: [(&[u8], &[u8]); 10] = [
         (
             b"distal 1\nmachine 1\ntensor s scalar\ntensor b scalar\ndata b 18446744073709551615\nstmt s = b * 2\nend\nprint s\n",
             b"distal run\ntensor s scalar\n18446744073709551614\n",
@@ -134,6 +138,11 @@ fn whole_jobs_print_their_answers(rt: HostRuntime) -> Result<(), Fail> {
             b"refused plan: TooManyVisits\n",
         ),
         (b"distal 1\nmachine 1", b"distal run\n"),
+        // A machine and placements change nothing of what is printed.
+        (
+            b"distal 1\nmachine 2x2\ntensor A 2x2\ntensor B 2x2\ntensor C 2x2\nplace A xy -> xy\nplace C xy -> yx\ndata B 1 2 3 4\ndata C 5 6 7 8\nstmt A(i,j) = B(i,k) * C(k,j)\nend\nprint A\n",
+            PRINTED,
+        ),
     ];
     for (text, answer) in jobs {
         let mut bytes = Bytes::new(rt.alloc());

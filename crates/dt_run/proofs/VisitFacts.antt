@@ -1,0 +1,69 @@
+-- What the answers of a run say of the visit where it stands.
+use Rattle.std.proofs.Common.{◌≡◌, ℕ, ◌+◌, ◌%◌, ◌^◌, ◌<◌, ◌≤◌, List, [], ◌∷◌, ◌++◌, length, take, get_or, map, sum_by, refl, ap, sym, subst, ◌∙◌, arith, Option, Some, None, IsSome}
+use Rattle.std.specs.Prelude.{MatchOption, slice_index, slice_set}
+use Rattle.std.proofs.lemmas.List.{take_more, take_more_set, take_all, map-append}
+use Rattle.std.proofs.lemmas.List.Sums.{sum_by_push}
+use Rattle.std.proofs.Math.Nat.{add-mod}
+use Rattle.dt_base.specs.Rows.{row_major}
+use Rattle.dt_nest.specs.declared.derivations.Derived.{Derived}
+use Rattle.dt_nest.specs.declared.loops.Pair.{Pair}
+use Rattle.dt_nest.specs.Meaning.{World, Env}
+use Rattle.dt_nest.specs.World.{world_of}
+use Rattle.dt_nest.specs.Visits.{Lanes, LeafVisit, Item, IsReset, IsVisit, value_in}
+use Rattle.dt_nest.specs.Run.{Run, OnVisit, IsValue, IsLaneValue}
+use Rattle.dt_run.specs.AtVisit.{visit_in, with_value, env_at}
+use Rattle.dt_run.proofs.Pushes.{row_major-push}
+
+-- what holds on a visit holds of the visit
+pub on_visit : (P : LeafVisit → Type 0) (last : Option Item) → OnVisit last P → P (visit_in last)
+on_visit P None h = absurd h
+on_visit P (Some (IsReset work)) h = absurd h
+on_visit P (Some (IsVisit visit)) h = h
+
+-- the value of a variable
+pub value_is : (r : Run) (u x : ℕ) → IsValue r u x → x ≡ env_at r None u
+unfolding env_at
+value_is r u x h = on_visit (λ visit. x ≡ value_in (world_of r.stored r.sched) r.sched.derived visit.pairs visit.slots u) r.last h
+
+lane_there : (w : World) (ds : List Derived) (pairs : List Pair) (slots : List ℕ) (lanes : Option Lanes) (y u x : ℕ) → MatchOption lanes ⊥ (λ l. x ≡ value_in w ds pairs (slice_set slots l.var y) u)
+    → x ≡ value_in w ds pairs (with_value slots lanes y) u
+lane_there w ds pairs slots None y u x h = absurd h
+lane_there w ds pairs slots (Some l) y u x h = h
+
+-- and with a value of the substituted loop
+pub lane_value_is : (r : Run) (y u x : ℕ) → IsLaneValue r y u x → x ≡ env_at r (Some y) u
+unfolding env_at
+lane_value_is r y u x h =
+    lane_there (world_of r.stored r.sched) r.sched.derived (visit_in r.last).pairs (visit_in r.last).slots (visit_in r.last).lanes y u x
+    (on_visit (λ visit. MatchOption visit.lanes ⊥ (λ l. x ≡ value_in (world_of r.stored r.sched) r.sched.derived visit.pairs (slice_set visit.slots l.var y) u)) r.last h)
+
+-- one more coordinate
+pub coordinates_more : (env : Env) (vars c : List ℕ) (i x : ℕ) → i < length vars → i < length c → x ≡ env (get_or vars i 0) → take i c ≡ map env (take i vars)
+    → take (i + 1) (slice_set c i x) ≡ map env (take (i + 1) vars)
+coordinates_more env vars c i x h k q e = rw (take_more_set c i x k, e, take_more vars i 0 h, map-append, q) refl
+
+pub inside_more : (extents vars c : List ℕ) (i x : ℕ) → i < length vars → i < length c → x < slice_index extents (get_or vars i 0) → IsSome (row_major (map (slice_index extents) (take i vars)) (take i c))
+    → IsSome (row_major (map (slice_index extents) (take (i + 1) vars)) (take (i + 1) (slice_set c i x)))
+inside_more extents vars c i x h k l s =
+    rw (take_more_set c i x k, take_more vars i 0 h, map-append)
+    (row_major-push (map (slice_index extents) (take i vars)) (take i c) (slice_index extents (get_or vars i 0)) x s l)
+
+-- all coordinates
+pub coordinates_all : (env : Env) (vars c : List ℕ) (i : ℕ) → length vars ≤ i → i ≤ length vars → take i c ≡ map env (take i vars) → take (length vars) c ≡ map env vars
+coordinates_all env vars c i h k e =
+    let n : length vars ≡ i = omega arith in
+    ap (λ (m : ℕ). take m c) n ∙ e ∙ ap (map env) (take_all i vars h)
+
+pub inside_all : (env : Env) (extents vars c : List ℕ) (i : ℕ) → length vars ≤ i → i ≤ length vars → take i c ≡ map env (take i vars) → IsSome (row_major (map (slice_index extents) (take i vars)) (take i c))
+    → IsSome (row_major (map (slice_index extents) vars) (map env vars))
+inside_all env extents vars c i h k e s =
+    let whole : take i vars ≡ vars = take_all i vars h in
+    let there : take i c ≡ map env vars = e ∙ ap (map env) whole in
+    subst (λ (w : List ℕ). IsSome (row_major (map (slice_index extents) vars) w)) there (subst (λ (w : List ℕ). IsSome (row_major (map (slice_index extents) w) (take i c))) whole s)
+
+-- one more term of a sum modulo 2 ^ 64
+pub terms_more : {A : Type 0} (f : A → ℕ) (xs : List A) (i : ℕ) (t : A) (s x : ℕ) → i < length xs → t ≡ get_or xs i t → s ≡ sum_by f (take i xs) % 2 ^ 64 → x ≡ f t % 2 ^ 64
+    → (s + x) % 2 ^ 64 ≡ sum_by f (take (i + 1) xs) % 2 ^ 64
+terms_more f xs i t s x h item e q =
+    let whole : take (i + 1) xs ≡ take i xs ++ t ∷ [] = take_more xs i t h ∙ ap (λ z. take i xs ++ z ∷ []) (sym item) in
+    rw (whole, sum_by_push f (take i xs) t, e, q) (sym (add-mod (sum_by f (take i xs)) (f t) (2 ^ 64)))

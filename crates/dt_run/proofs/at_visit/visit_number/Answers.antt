@@ -1,0 +1,33 @@
+use Rattle.std.proofs.Common.{◌≡◌, ℕ, ◌%◌, ◌^◌, None, Some, Option, option_map, ap, ◌∙◌}
+use Rattle.dt_model.specs.Stmts.{shapes_of}
+use Rattle.dt_nest.specs.Visits.{Lanes}
+use Rattle.dt_nest.specs.Run.{AreAscending}
+use Rattle.dt_nest.specs.World.{entries_of}
+use Rattle.dt_run.specs.AtVisit.{visit_of}
+use Rattle.dt_run.proofs.VisitFacts.{on_visit}
+use Rattle.dt_run.proofs.VisitSums.{lane_free, terms_at, visit_once, visit_lanes}
+use Rattle.dt_run.proofs.at_visit.visit_number.Goals as goal
+
+no_lanes : (lanes : Option Lanes) → None ≡ option_map (λ (l : Lanes). l.extent) lanes → lanes ≡ None
+no_lanes None e = λ i. None
+no_lanes (Some l) e = absurd (cc)
+
+pub terms_number-requires : goal.terms_number-requires
+terms_number-requires g c =
+    let e : (visit_of c.args.visits.now).lanes ≡ None = no_lanes (visit_of c.args.visits.now).lanes (on_visit (λ visit. None ≡ option_map (λ (l : Lanes). l.extent) visit.lanes) c.args.visits.now.last c.in-None.ensures.extent) in
+    terms_at c.args.visits.now None (shapes_of c.args.tensors.now) (lane_free c.args.visits.now e) c.args.terms.now c.requires.reads
+
+pub lanes_number-requires-clause-terms : goal.lanes_number-requires-clause-terms
+lanes_number-requires-clause-terms g c = λ x o. terms_at c.args.visits.now (Some x) (shapes_of c.args.tensors.now) (λ u h. (o, h)) c.args.terms.now c.requires.reads
+
+pub returns-in-None : goal.returns-in-None
+returns-in-None g c =
+    let e : (visit_of c.args.visits.now).lanes ≡ None = no_lanes (visit_of c.args.visits.now).lanes (on_visit (λ visit. None ≡ option_map (λ (l : Lanes). l.extent) visit.lanes) c.args.visits.now.last c.in-None.ensures.extent) in
+    c.terms_number.ensures ∙ ap (λ (n : ℕ). n % 2 ^ 64) (visit_once c.args.visits.now (entries_of c.args.tensors.now) c.args.terms.now e c.requires.terms)
+
+pub returns-in-Some : goal.returns-in-Some
+returns-in-Some g c =
+    c.lanes_number.ensures
+    ∙ ap (λ (n : ℕ). n % 2 ^ 64) (visit_lanes c.args.visits.now (entries_of c.args.tensors.now) c.args.terms.now c.in-Some.extent
+    (on_visit (λ visit. Some c.in-Some.extent ≡ option_map (λ (l : Lanes). l.extent) visit.lanes) c.args.visits.now.last c.in-Some.ensures.extent)
+    (on_visit (λ visit. AreAscending visit.lanes) c.args.visits.now.last c.in-Some.ensures.ascending) c.requires.terms)

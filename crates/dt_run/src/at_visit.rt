@@ -1,0 +1,166 @@
+//! What a visit adds: the values of variables there, and the numbers of tensors, factors and terms.
+
+ghost use Rattle.std.specs.Prelude.{◌≡◌, ℕ, ◌<◌, ◌^◌, ◌%◌, All, IsSome, Some, filter, length, map, slice_index, sum_by, take, true, if◌then◌else◌};
+ghost use Rattle.std.specs.List.{AllByRecursion, range_with_len};
+ghost use Rattle.dt_base.specs.Rows.{product, row_major};
+ghost use Rattle.dt_model.specs.Stmts.{shapes_of};
+ghost use Rattle.dt_nest.specs.Effects.{visit_sum};
+ghost use Rattle.dt_nest.specs.Tree.{read_accesses};
+ghost use Rattle.dt_nest.specs.Run.{HasLaneValue, IsAtLeaf, OnLanes, is_among};
+ghost use Rattle.dt_nest.specs.Meaning.{factor_of, term_of, terms_of};
+ghost use Rattle.dt_nest.specs.World.{entries_of, world_of};
+ghost use Rattle.dt_run.specs.AtVisit.{AreCoordinates, IsAccessOver, IsFactorAt, IsTermAt, MayRead, env_at, valid_of, visit_of};
+
+use dt_model::{Access, Factor, Locator, Term, Whole};
+use dt_nest::Visits;
+
+/// The value of a variable at the last visit, with a value of its substituted loop where one is given.
+fn value_of<L: Locator>(visits: &Visits<L>, lane: Option<u32>, var: u32) -> u64
+    requires { MayRead visits.now lane var }
+    ensures value { result ≡ env_at visits.now lane var }
+    ensures below { result < slice_index visits.now.sched.extents var }
+{
+    match lane {
+        None => visits.eval(var),
+        Some(x) => visits.eval_lane(x, var),
+    }
+}
+
+/// The values of the variables, and 0 behind them.
+pub fn coordinates<L: Locator>(visits: &Visits<L>, lane: Option<u32>, vars: &[u32]) -> [u32; 4]
+    requires { AreCoordinates visits.now lane vars.now }
+    ensures values { take (length vars.now) result ≡ map (env_at visits.now lane) vars.now }
+    ensures inside { IsSome (row_major (map (slice_index visits.now.sched.extents) vars.now) (map (env_at visits.now lane) vars.now)) }
+{
+    let mut coords = [0u32; 4];
+    for (i, var) in vars.iter().enumerate() {
+        coords[i] = value_of(visits, lane, *var) as u32;
+    }
+    coords
+}
+
+fn access_number<L: Locator>(
+    visits: &Visits<L>,
+    lane: Option<u32>,
+    access: &Access,
+    tensors: &[Whole],
+) -> u64
+    requires { AreCoordinates visits.now lane access.now.vars }
+    ensures { result ≡ entries_of tensors.now access.now.tensor (map (env_at visits.now lane) access.now.vars) }
+{
+    let vars = access.vars.as_slice();
+    let coords = coordinates(visits, lane, vars);
+    match tensors.get(access.tensor as usize) {
+        None => 0,
+        Some(tensor) => tensor.get(&coords[..vars.len()]).unwrap_or(0),
+    }
+}
+
+fn factor_number<L: Locator>(
+    visits: &Visits<L>,
+    lane: Option<u32>,
+    factor: &Factor,
+    tensors: &[Whole],
+) -> u64
+    requires { IsFactorAt visits.now lane factor.now }
+    ensures { result ≡ factor_of (entries_of tensors.now) (env_at visits.now lane) factor.now }
+{
+    match factor {
+        Factor::Literal(n) => *n,
+        Factor::Read(access) => access_number(visits, lane, access, tensors),
+    }
+}
+
+fn product_number<L: Locator>(
+    visits: &Visits<L>,
+    lane: Option<u32>,
+    factors: &[Factor],
+    tensors: &[Whole],
+) -> u64
+    requires { All (IsFactorAt visits.now lane) factors.now }
+    ensures { result ≡ product (map (factor_of (entries_of tensors.now) (env_at visits.now lane)) factors.now) % 2 ^ 64 }
+{
+    let mut product = 1u64;
+    for factor in factors {
+        product = product.wrapping_mul(factor_number(visits, lane, factor, tensors));
+    }
+    product
+}
+
+fn term_number<L: Locator>(
+    visits: &Visits<L>,
+    lane: Option<u32>,
+    term: &Term,
+    tensors: &[Whole],
+) -> u64
+    requires { IsTermAt visits.now lane term.now }
+    ensures { result ≡ term_of (entries_of tensors.now) (env_at visits.now lane) term.now % 2 ^ 64 }
+{
+    let product = product_number(visits, lane, term.factors.as_slice(), tensors);
+    if term.minus {
+        product.wrapping_neg()
+    } else {
+        product
+    }
+}
+
+/// The sum of the terms at the last visit, modulo 2^64.
+fn terms_number<L: Locator>(
+    visits: &Visits<L>,
+    lane: Option<u32>,
+    terms: &[Term],
+    tensors: &[Whole],
+) -> u64
+    requires { All (IsTermAt visits.now lane) terms.now }
+    ensures { result ≡ terms_of (entries_of tensors.now) (env_at visits.now lane) terms.now % 2 ^ 64 }
+{
+    let mut sum = 0u64;
+    for term in terms {
+        sum = sum.wrapping_add(term_number(visits, lane, term, tensors));
+    }
+    sum
+}
+
+/// What one value of the last visit's substituted loop adds, modulo 2^64.
+fn lane_number<L: Locator>(visits: &Visits<L>, x: u32, terms: &[Term], tensors: &[Whole]) -> u64
+    requires within { OnLanes visits.now (λ lanes. x < lanes.extent) }
+    requires terms { OnLanes visits.now (λ lanes. is_among x lanes.valid ≡ true) → All (IsTermAt visits.now (Some x)) terms.now }
+    ensures { result ≡ (if is_among x (valid_of visits.now) then terms_of (entries_of tensors.now) (env_at visits.now (Some x)) terms.now else 0) % 2 ^ 64 }
+{
+    if visits.valid(x) {
+        terms_number(visits, Some(x), terms, tensors)
+    } else {
+        0
+    }
+}
+
+/// What the values of the last visit's substituted loop add, modulo 2^64.
+fn lanes_number<L: Locator>(
+    visits: &Visits<L>,
+    extent: u32,
+    terms: &[Term],
+    tensors: &[Whole],
+) -> u64
+    requires extent { OnLanes visits.now (λ lanes. extent ≡ lanes.extent) }
+    requires terms { (x : ℕ) → OnLanes visits.now (λ lanes. is_among x lanes.valid ≡ true) → All (IsTermAt visits.now (Some x)) terms.now }
+    ensures { result ≡ sum_by (λ x. terms_of (entries_of tensors.now) (env_at visits.now (Some x)) terms.now) (filter (λ x. is_among x (valid_of visits.now)) (range_with_len 0 extent)) % 2 ^ 64 }
+{
+    let mut sum = 0u64;
+    for x in 0..extent {
+        sum = sum.wrapping_add(lane_number(visits, x, terms, tensors));
+    }
+    sum
+}
+
+/// What the last visit adds, modulo 2^64.
+pub fn visit_number<L: Locator>(visits: &Visits<L>, terms: &[Term], tensors: &[Whole]) -> u64
+    requires leaf { IsAtLeaf visits.now }
+    requires terms { terms.now ≡ (visit_of visits.now).leaf.terms }
+    requires reads { AllByRecursion (λ a. IsAccessOver (shapes_of tensors.now) visits.now.sched.extents a × AllByRecursion (HasLaneValue visits.now) a.vars) (read_accesses terms.now) }
+    ensures { result ≡ visit_sum (world_of visits.now.stored visits.now.sched) visits.now.sched.derived (entries_of tensors.now) (visit_of visits.now) % 2 ^ 64 }
+{
+    match visits.lanes() {
+        None => terms_number(visits, None, terms, tensors),
+        Some(extent) => lanes_number(visits, extent, terms, tensors),
+    }
+}
