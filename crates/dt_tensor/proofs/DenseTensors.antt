@@ -4,11 +4,11 @@ use Rattle.std.specs.List.{filter, list_all, list_any, count_by}
 use Rattle.std.proofs.lemmas.List.{length-map, get_or-map, ext_get_or}
 use Rattle.dt_base.specs.Ranges.{below, assignments}
 use Rattle.dt_base.specs.Rows.{product}
-use Rattle.dt_model.specs.Positions.{begins, is_followed, stored_coords}
+use Rattle.dt_model.specs.Positions.{IsStored, begins, is_followed, stored_coords}
 use Rattle.dt_model.specs.Shape.{dims, IsShape}
 use Rattle.dt_model.specs.WholeTensor.{WholeTensor}
 use Rattle.dt_model.specs.declared.shape.Shape.{Shape}
-use Rattle.dt_tensor.specs.Packed.{IsPacked, number_in, whole_of, dense_tensor}
+use Rattle.dt_tensor.specs.Packed.{IsPacked, number_in, whole_of, dense_levels, dense_tensor}
 use Rattle.dt_tensor.proofs.Assignments.{length-assignments, row_major-assignment, position-assignments}
 
 -- a test that always passes
@@ -48,14 +48,18 @@ length-levels : (m : ℕ) → length (replicate m false) ≡ m
 length-levels zero = refl
 length-levels (suc m) = ap suc (length-levels m)
 
+-- dense levels of a lawful shape store what they ask for
+pub IsStored-dense : (shape : Shape) → IsShape shape → IsStored (dense_levels (dims shape))
+IsStored-dense shape h = record {
+  shape = subst (λ (o : Option Shape). IsSome o) (sym h) refl;
+  levels = length-levels (length (dims shape));
+  stored = sym (stored_coords-dense (dims shape) (length (dims shape)) (assignments (dims shape)));
+}
+
 -- a lawful shape and as many numbers as indices make a tensor
 pub IsPacked-dense : (shape : Shape) (values : List ℕ) → IsShape shape → product (dims shape) ≤ 1048576 → length values ≡ product (dims shape) → IsPacked (dense_tensor (dims shape) values)
 IsPacked-dense shape values h few full = record {
-  stored = record {
-    shape = subst (λ (o : Option Shape). IsSome o) (sym h) refl;
-    levels = length-levels (length (dims shape));
-    stored = sym (stored_coords-dense (dims shape) (length (dims shape)) (assignments (dims shape)));
-  };
+  stored = IsStored-dense shape h;
   few = omega (arith, length-assignments (dims shape));
   full = full ∙ sym (length-assignments (dims shape));
 }
@@ -85,6 +89,6 @@ whole_of-dense ns values full = ap (whole_with ns) (numbers-dense ns values full
 pub count-dense : (ns values : List ℕ) → IsPacked (dense_tensor ns values) → length values ≡ product ns
 count-dense ns values h = h.full ∙ length-assignments ns
 
--- a position of a dense tensor is a row-major number
-pub position-within : (ns values : List ℕ) (k : ℕ) → k < length (dense_tensor ns values).coords → k < product ns
-position-within ns values k h = omega (arith, length-assignments ns)
+-- a position of dense levels is a row-major number
+pub position-within : (ns : List ℕ) (k : ℕ) → k < length (dense_levels ns).coords → k < product ns
+position-within ns k h = omega (arith, length-assignments ns)

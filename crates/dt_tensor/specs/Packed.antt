@@ -11,6 +11,10 @@ pub record Packed : Type 0 where
   pub coords : List (List ℕ)
   pub values : List ℕ
 
+-- what a tensor with dense levels alone stores: each index of its extents
+abbrev pub dense_levels : List ℕ → StoredTensor
+dense_levels ns = record { extents = ns; compressed = replicate (length ns) false; coords = assignments ns }
+
 -- where the words of a tensor lie
 abbrev pub stored_of : Packed → StoredTensor
 stored_of t = record { extents = t.extents; compressed = t.compressed; coords = t.coords }

@@ -1,6 +1,7 @@
 //! Tensors as they are stored: the stored coordinates in order, and one number for each.
 #![tactic(auto)]
 
+mod dense;
 mod entry;
 mod packing;
 mod tensor;
@@ -8,6 +9,7 @@ mod tensors;
 #[cfg(test)]
 mod tests;
 
+pub use dense::DenseLevels;
 pub use entry::{Entries, Given};
 pub use packing::{PackEnd, pack};
 pub use tensor::Tensor;

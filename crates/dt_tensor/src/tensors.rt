@@ -57,30 +57,32 @@ impl Locator for Tensors {
     ghost tensors = { λ l. map stored_of l };
 
     fn place(&self, tensor: u32, c: &[u32]) -> Option<u32> {
-        self.get(tensor).place(c)
+        self.get(tensor).levels().place(c)
     }
 
     fn coords(&self, tensor: u32, pos: u32) -> Coords {
-        self.get(tensor).coords(*self.items.allocator(), pos)
+        self.get(tensor)
+            .levels()
+            .coords(*self.items.allocator(), pos)
     }
 
     fn count(&self, tensor: u32) -> u32 {
-        self.get(tensor).stored()
+        self.get(tensor).levels().count()
     }
 
     fn has_prefix(&self, tensor: u32, c: &[u32]) -> bool {
-        self.get(tensor).has_prefix(c)
+        self.get(tensor).levels().has_prefix(c)
     }
 
     fn shape(&self, tensor: u32) -> Shape {
-        self.get(tensor).shape()
+        self.get(tensor).levels().shape()
     }
 
     fn cost(&self, tensor: u32) -> u32 {
-        self.get(tensor).cost()
+        self.get(tensor).levels().cost()
     }
 
     fn next_child(&self, tensor: u32, prefix: &[u32], from: u32) -> Option<u32> {
-        self.get(tensor).next_child(prefix, from)
+        self.get(tensor).levels().next_child(prefix, from)
     }
 }

@@ -6,4 +6,4 @@ use Rattle.dt_tensor.proofs.tensor.Tensor.coord.Goals as goal
 
 pub coordinates-requires-clause-within : goal.coordinates-requires-clause-within
 coordinates-requires-clause-within c =
-    position-within (dims c.self.inside.shape) c.self.inside.values.items c.args.pos (subst (λ (t : Packed). c.args.pos < length t.coords) (sym c.self.view_is) c.requires.within)
+    position-within (dims c.self.inside.shape) c.args.pos (subst (λ (t : Packed). c.args.pos < length t.coords) (sym c.self.view_is) c.requires.within)

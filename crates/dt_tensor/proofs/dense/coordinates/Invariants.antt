@@ -1,7 +1,7 @@
 use Rattle.std.proofs.Common.{◌≡◌, ◌<◌, ◌++◌, [], length, take, drop, slice_index_or}
 use Rattle.dt_base.specs.Ranges.{assignments}
 use Rattle.dt_base.specs.Rows.{product}
-use Rattle.dt_tensor.proofs.tensor.coordinates.Given as goal
+use Rattle.dt_tensor.proofs.dense.coordinates.Given as goal
 
 abbrev pub invariant-loop-i : goal.invariant-loop-i
 invariant-loop-i l = record {

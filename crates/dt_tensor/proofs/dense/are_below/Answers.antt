@@ -4,7 +4,7 @@ use Rattle.std.proofs.lemmas.Bool.{le-leb}
 use Rattle.std.proofs.lemmas.Iterator.{YieldsList-from_slice, YieldsList-from_zip}
 use Rattle.std.proofs.lemmas.Iterator.Search.{all_from_yields_List}
 use borrow.Author.Tests.{tests}
-use Rattle.dt_tensor.proofs.tensor.are_below.Goals as goal
+use Rattle.dt_tensor.proofs.dense.are_below.Goals as goal
 
 pub returns-then-c-extents : goal.returns-then-c-extents
 returns-then-c-extents c =
