@@ -13,7 +13,7 @@ use Rattle.dt_nest.specs.Tree.{Tree}
 use Rattle.dt_nest.specs.Schedule.{Schedule}
 use Rattle.dt_nest.specs.Visits.{Item, IsReset, Tests}
 use Rattle.dt_nest.specs.Odometer.{HaveSlots, works_at, item_at, after, Reaches, Finds, Steps}
-use Rattle.dt_nest.specs.Run.{run_tests, left_of, Stands, ItemHolds, LastHolds, last_of, IsSound, Moves, ArrivesAt}
+use Rattle.dt_nest.specs.Run.{run_tests, left_of, Stands, ItemHolds, LastHolds, last_of, CanGoOn, IsSound, Moves, ArrivesAt}
 use Rattle.dt_nest.proofs.Holding.{item-visit}
 use Rattle.dt_nest.proofs.OwnSlots.{have_slots}
 
@@ -50,16 +50,18 @@ arrives t tree path list slots leaf past (Resetting l m work) r a =
     ))
 
 -- a run that has been sound is so at the next place
-pub sound_after : (stored : List StoredTensor) (s : Schedule) (path slots new : List ℕ) (p q : Progress) → IsSound stored s path slots p → length new ≡ length slots
+pub sound_after : (stored : List StoredTensor) (s : Schedule) (path slots new : List ℕ) (p q : Progress) → CanGoOn stored s path slots p → length new ≡ length slots
     → Moves (run_tests stored s) s.nest path (left_of (run_tests stored s) s.nest path slots p) new q × Stands s.nest new q → IsSound stored s path new q
 sound_after stored s path slots new p q i e m = record {
-  lawful = i.lawful;
-  fits = i.fits;
-  goes = i.goes;
-  room = e ∙ i.room;
-  stands = m.1;
+  on = record {
+    lawful = i.lawful;
+    fits = i.fits;
+    goes = i.goes;
+    room = e ∙ i.room;
+    stands = m.1;
+    left = (holds q m.0).1;
+  };
   last = (holds q m.0).0;
-  left = (holds q m.0).1;
 }
   where
     holds : (q : Progress) → Moves (run_tests stored s) s.nest path (left_of (run_tests stored s) s.nest path slots p) new q
@@ -70,15 +72,15 @@ sound_after stored s path slots new p q i e m = record {
     holds Done h = (tt, tt)
 
 -- a run that has come behind a reset
-pub still_there : (stored : List StoredTensor) (s : Schedule) (path slots : List ℕ) (leaf past work : ℕ) → IsSound stored s path slots (Resetting leaf past work)
+pub still_there : (stored : List StoredTensor) (s : Schedule) (path slots : List ℕ) (leaf past work : ℕ) → CanGoOn stored s path slots (Resetting leaf past work)
     → Reaches (run_tests stored s) s.nest [] path (left_of (run_tests stored s) s.nest path slots (Resetting leaf past work)) slots leaf past
 still_there stored s path slots leaf past work i = record { items = refl; stands = i.stands.0; exists = i.stands.1; resets = i.stands.2 }
 
 -- each loop has a slot of its own
-pub sound_room : (stored : List StoredTensor) (s : Schedule) (path slots : List ℕ) (p : Progress) → IsSound stored s path slots p → HaveSlots s.nest (length slots)
+pub sound_room : (stored : List StoredTensor) (s : Schedule) (path slots : List ℕ) (p : Progress) → CanGoOn stored s path slots p → HaveSlots s.nest (length slots)
 sound_room stored s path slots p i = subst (λ (k : ℕ). HaveSlots s.nest k) (sym i.room) (have_slots s i.lawful)
 
-module _ (stored : List StoredTensor) (s : Schedule) (path slots new : List ℕ) (p q : Progress) (i : IsSound stored s path slots p) where
+module _ (stored : List StoredTensor) (s : Schedule) (path slots new : List ℕ) (p q : Progress) (i : CanGoOn stored s path slots p) where
   -- from the start to a first visit
   pub from_start : (leaf : ℕ) → p ≡ Before → Finds (run_tests stored s) s.nest [] path slots new (Some leaf) → ArrivesAt (slice_get (works_at s.nest leaf) 0) leaf 0 q
       → Moves (run_tests stored s) s.nest path (left_of (run_tests stored s) s.nest path slots p) new q × Stands s.nest new q
@@ -99,4 +101,4 @@ module _ (stored : List StoredTensor) (s : Schedule) (path slots new : List ℕ)
   from_reset leaf past work e a =
       subst (λ (r : Progress). Moves (run_tests stored s) s.nest path (left_of (run_tests stored s) s.nest path slots r) slots q × Stands s.nest slots q) (sym e)
       (arrives (run_tests stored s) s.nest path (left_of (run_tests stored s) s.nest path slots (Resetting leaf past work)) slots leaf past q
-      (still_there stored s path slots leaf past work (subst (IsSound stored s path slots) e i)) a)
+      (still_there stored s path slots leaf past work (subst (CanGoOn stored s path slots) e i)) a)

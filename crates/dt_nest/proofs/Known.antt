@@ -10,12 +10,8 @@ use Rattle.dt_nest.specs.declared.derivations.Derive.TheVariants.{Split, Quotien
 use Rattle.dt_nest.specs.declared.derivations.Derived.{Derived}
 use Rattle.dt_nest.specs.Meaning.{World, Env, derive_of, known}
 use Rattle.dt_nest.specs.Lawful.{sources, IsPast, AreOrdered, Loops, Follows, is_split, AreGuarded}
+use Rattle.dt_nest.specs.Tables.{IsSplitVar}
 use Rattle.dt_nest.specs.Values.{bounded, joined, sum_inside, derived_inside, inside}
-
--- v is a variable of a split
-abbrev pub IsSplitVar : List Derived → ℕ → Type 0
-IsSplitVar [] v = ⊥
-IsSplitVar (d ∷ ds) v = MatchBool (nat_eq v d.var) (is_split d.how ≡ true) (IsSplitVar ds v)
 
 -- some variable of a split that has a value is not below its extent
 pub record Outside (w : World) (ds : List Derived) (around : Loops) (name env : Env) : Type 0 where

@@ -20,3 +20,6 @@ pub mod RunFacts
 pub mod Congruence
 pub mod Additions
 pub mod RootApart
+pub mod Turns
+pub mod TableFacts
+pub mod StepFacts

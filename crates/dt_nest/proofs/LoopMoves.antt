@@ -23,12 +23,13 @@ IsLeafTree (Leaf lhs terms guards kernel) = Unit {0}
 abbrev pub later : Tests → Option Walk → ℕ → ℕ → Tree → List Pair → List ℕ → List ℕ → ℕ → List Item
 later t walk v n body pairs path base x = flat_map (step_of t walk v body pairs base (drop 1 path)) (range_with_len (x + 1) (end_on path n x - (x + 1)))
 
-after_loop : (t : Tests) (walk : Option Walk) (v n : ℕ) (body : Tree) (pairs : List Pair) (path slots : List ℕ) (leaf : ℕ) → is_kernel_leaf body ≡ false
+-- the items after a visit below a loop that is not substituted, and the item there
+pub after_loop : (t : Tests) (walk : Option Walk) (v n : ℕ) (body : Tree) (pairs : List Pair) (path slots : List ℕ) (leaf : ℕ) → is_kernel_leaf body ≡ false
     → after t (Loop v n walk body) pairs slots path leaf ≡ after t body pairs slots (drop 1 path) leaf ++ later t walk v n body pairs path (cleared body slots) (slice_index slots v)
 after_loop t walk v n body pairs path slots leaf plain =
     ap (λ (b : Bool). if b then [] else after t body pairs slots (drop 1 path) leaf ++ later t walk v n body pairs path (cleared body slots) (slice_index slots v)) plain
 
-item_loop : (t : Tests) (walk : Option Walk) (v n : ℕ) (body : Tree) (pairs : List Pair) (slots : List ℕ) (leaf : ℕ) → is_kernel_leaf body ≡ false → item_at t (Loop v n walk body) pairs slots leaf ≡ item_at t body pairs slots leaf
+pub item_loop : (t : Tests) (walk : Option Walk) (v n : ℕ) (body : Tree) (pairs : List Pair) (slots : List ℕ) (leaf : ℕ) → is_kernel_leaf body ≡ false → item_at t (Loop v n walk body) pairs slots leaf ≡ item_at t body pairs slots leaf
 item_loop t walk v n body pairs slots leaf plain =
     ap (λ (b : Bool). if b then leaf_item t body pairs slots (Some (record { var = v; extent = n; valid = valid_values t walk v n (guards_of body) pairs slots })) else item_at t body pairs slots leaf) plain
 

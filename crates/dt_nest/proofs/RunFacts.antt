@@ -4,6 +4,8 @@ use Rattle.std.specs.Prelude.{MatchOption, slice_index, slice_set}
 use Rattle.std.proofs.lemmas.List.{length-replicate}
 use Rattle.dt_model.specs.Positions.{StoredTensor}
 use Rattle.dt_nest.specs.declared.branches.Substituted.{Substituted}
+use Rattle.dt_nest.specs.declared.loops.Pair.{Pair}
+use Rattle.dt_nest.specs.declared.wheels.Wheels.{Wheels}
 use Rattle.dt_nest.specs.declared.progress.Progress.{Progress}
 use Rattle.dt_nest.specs.declared.progress.Progress.TheVariants.{Before, Resetting, On, Done}
 use Rattle.dt_nest.specs.Schedule.{Schedule}
@@ -15,7 +17,10 @@ use Rattle.dt_nest.specs.Values.{inside_in}
 use Rattle.dt_nest.specs.Visits.{Lanes, IsPath, no_slots, value_in}
 use Rattle.dt_nest.specs.Odometer.{IsAt, pairs_at}
 use Rattle.dt_nest.specs.Branch.{leaf_at, loops_at, node_at, substituted_at, valid_at, lanes_at}
-use Rattle.dt_nest.specs.Run.{run_over, IsAtLeaf, OnLanes, HasValue, HasLaneValue, IsValue, IsLaneValue, is_among, IsLeafOf, AreValued, IsExtent, AreAscending, OnVisit, among, with_lane, GuardsHold, run_tests, run_of, standing, IsSound}
+use Rattle.dt_nest.specs.Run.{run_over, IsAtLeaf, OnLanes, HasValue, HasLaneValue, IsValue, IsLaneValue, is_among, IsLeafOf, AreValued, IsExtent, AreAscending, OnVisit, among, with_lane, GuardsHold, run_tests, run_of, standing, IsKept, IsSound}
+use Rattle.dt_nest.specs.Tables.{tabled}
+use Rattle.dt_nest.specs.Wheels.{AreWheels}
+use Rattle.dt_nest.proofs.Turns.{last_pairs}
 use Rattle.dt_nest.proofs.OwnSlots.{none_entered}
 use Rattle.dt_nest.proofs.Holding.{visits_hold}
 use Rattle.dt_nest.proofs.LeafFacts.{leaf-node, LaneIs, lane_is, LeafFacts, leaf_facts, value_there, lane_value_there, below_there, lane_below_there}
@@ -25,14 +30,20 @@ module _ (stored : List StoredTensor) (s : Schedule) (path slots : List ℕ) whe
   -- a run before its first item is sound
   pub sound_before : IsLawful s → FitsStored stored s → IsPath s path → slots ≡ no_slots s → IsSound stored s path slots Before
   sound_before l f p e = subst (λ (x : List ℕ). IsSound stored s path x Before) (sym e) (record {
-    lawful = l;
-    fits = f;
-    goes = p;
-    room = length-replicate (length s.names) 0;
-    stands = none_entered s.nest (length s.names);
+    on = record {
+      lawful = l;
+      fits = f;
+      goes = p;
+      room = length-replicate (length s.names) 0;
+      stands = none_entered s.nest (length s.names);
+      left = visits_hold (run_tests stored s) s.nest [] (no_slots s) path;
+    };
     last = tt;
-    left = visits_hold (run_tests stored s) s.nest [] (no_slots s) path;
   })
+
+  -- and nothing else is kept than its wheels
+  pub kept_before : (w : Wheels) (values : List (Option ℕ)) → AreWheels s path w → length values ≡ length s.names → IsKept stored s path slots Before w values
+  kept_before w values a e = record { wheels = a; room = e; table = λ p. absurd (cc) }
 
   -- and has all visits left
   pub starts : IsLawful s → FitsStored stored s → slots ≡ no_slots s → run_of stored s path slots Before ≡ run_over stored s path
@@ -41,7 +52,7 @@ module _ (stored : List StoredTensor) (s : Schedule) (path slots : List ℕ) whe
 
 module _ (stored : List StoredTensor) (s : Schedule) (path slots : List ℕ) (p : Progress) (i : IsSound stored s path slots p) where
   facts : (leaf : ℕ) → IsAt s.nest slots leaf → LeafFacts s s.derived slots (among (loops_at s.nest [] leaf)) (pairs_at s.nest leaf) (node_at s.nest leaf) (lanes_at (run_tests stored s) s.nest [] slots leaf)
-  facts leaf at = leaf_facts s s.derived (run_tests stored s) s.nest [] [] slots leaf at (λ u a. absurd (cc)) i.lawful.named i.lawful.follows i.lawful.guards i.lawful.kernels.1 (λ u. refl)
+  facts leaf at = leaf_facts s s.derived (run_tests stored s) s.nest [] [] slots leaf at (λ u a. absurd (cc)) i.on.lawful.named i.on.lawful.follows i.on.lawful.guards i.on.lawful.kernels.1 (λ u. refl)
 
   pub leaf_answer : IsAtLeaf (run_of stored s path slots p) → IsLeafOf (run_of stored s path slots p) (leaf_at s.nest (standing p))
   leaf_answer a = go p a
@@ -58,7 +69,7 @@ module _ (stored : List StoredTensor) (s : Schedule) (path slots : List ℕ) (p 
       go : (p : Progress) → IsSound stored s path slots p → IsAtLeaf (run_of stored s path slots p) → AreValued (run_of stored s path slots p)
       go Before i a = absurd a
       go (Resetting leaf past work) i a = absurd a
-      go (On leaf) i a = ((facts leaf i.stands.0).left, (facts leaf i.stands.0).reads)
+      go (On leaf) i a = ((facts leaf i.on.stands.0).left, (facts leaf i.on.stands.0).reads)
       go Done i a = absurd a
 
   lane_extent : (lanes : Option Lanes) (loop : Option Substituted) (valid : ℕ → Bool) → LaneIs lanes loop valid → option_map (λ (x : Substituted). x.extent) loop ≡ option_map (λ (x : Lanes). x.extent) lanes
@@ -99,8 +110,13 @@ module _ (stored : List StoredTensor) (s : Schedule) (path slots : List ℕ) (p 
       go Before i a e = absurd a
       go (Resetting leaf past work) i a e = absurd a
       go (On leaf) i a e =
-          value_there stored s (stored_each stored s i.fits) s.derived i.lawful.ordered (pairs_at s.nest leaf) slots (among (loops_at s.nest [] leaf)) (node_at s.nest leaf) (lanes_at (run_tests stored s) s.nest [] slots leaf) (facts leaf i.stands.0) i.last u o a e
+          value_there stored s (stored_each stored s i.on.fits) s.derived i.on.lawful.ordered (pairs_at s.nest leaf) slots (among (loops_at s.nest [] leaf)) (node_at s.nest leaf) (lanes_at (run_tests stored s) s.nest [] slots leaf) (facts leaf i.on.stands.0) i.last u o a e
       go Done i a e = absurd a
+
+  -- the values that are kept at a visit of the last leaf
+  pub value_kept : (w : Wheels) (values : List (Option ℕ)) (u : ℕ) → IsKept stored s path slots p w values → p ≡ On w.leaf → tabled values u ≡ inside_in (world_of stored s) s.derived (pairs_at s.nest (standing p)) slots u
+  value_kept w values u k e =
+      k.table e u ∙ ap (λ (l : List Pair). inside_in (world_of stored s) s.derived l slots u) (sym (ap (pairs_at s.nest) (ap standing e ∙ k.wheels.leaf) ∙ last_pairs s.nest))
 
   module _ (leaf x u : ℕ) where
     lane_value : (lanes : Option Lanes) (loop : Option Substituted) (b : Substituted) (valid : ℕ → Bool) (o : Option ℕ) → loop ≡ Some b → LaneIs lanes loop valid
@@ -112,7 +128,7 @@ module _ (stored : List StoredTensor) (s : Schedule) (path slots : List ℕ) (p 
     lane_value (Some lanes) None b valid o n l f h m k e = absurd l
     lane_value (Some lanes) (Some loop) b valid o n l f h m k e =
         let v : b.var ≡ lanes.var = ap (λ (o : Option Substituted). unwrap_or (option_map (λ (y : Substituted). y.var) o) 0) (sym n) ∙ l.0 in
-        lane_value_there stored s (stored_each stored s i.fits) s.derived i.lawful.ordered (pairs_at s.nest leaf) slots (among (loops_at s.nest [] leaf)) (node_at s.nest leaf) lanes f h x m u o k
+        lane_value_there stored s (stored_each stored s i.on.fits) s.derived i.on.lawful.ordered (pairs_at s.nest leaf) slots (among (loops_at s.nest [] leaf)) (node_at s.nest leaf) lanes f h x m u o k
         (e ∙ ap (λ (y : ℕ). inside_in (world_of stored s) s.derived (pairs_at s.nest leaf) (slice_set slots y x) u) v)
 
   pub lane_value_answer : (x u : ℕ) (o : Option ℕ) (b : Substituted) → OnLanes (run_of stored s path slots p) (λ lanes. is_among x lanes.valid ≡ true) → HasLaneValue (run_of stored s path slots p) u → substituted_at s.nest (standing p) ≡ Some b
@@ -124,7 +140,7 @@ module _ (stored : List StoredTensor) (s : Schedule) (path slots : List ℕ) (p 
       go Before i m a n e = absurd a
       go (Resetting leaf past work) i m a n e = absurd a
       go (On leaf) i m a n e =
-          lane_value leaf x u (lanes_at (run_tests stored s) s.nest [] slots leaf) (substituted_at s.nest leaf) b (valid_at (run_tests stored s) s.nest [] slots leaf) o n (lane_is (run_tests stored s) s.nest [] slots leaf) (facts leaf i.stands.0) i.last m a e
+          lane_value leaf x u (lanes_at (run_tests stored s) s.nest [] slots leaf) (substituted_at s.nest leaf) b (valid_at (run_tests stored s) s.nest [] slots leaf) o n (lane_is (run_tests stored s) s.nest [] slots leaf) (facts leaf i.on.stands.0) i.last m a e
       go Done i m a n e = absurd a
 
   no_lane : (lanes : Option Lanes) (loop : Option Substituted) (valid : ℕ → Bool) (P : Lanes → Type 0) → loop ≡ None → LaneIs lanes loop valid → MatchOption lanes ⊥ P → ⊥
@@ -164,7 +180,7 @@ module _ (stored : List StoredTensor) (s : Schedule) (path slots : List ℕ) (p 
       go (Resetting leaf past work) i a v = absurd a
       go (On leaf) i a v =
           subst (λ (m : ℕ). m < slice_index s.extents u) (sym v)
-          (below_there stored s (stored_each stored s i.fits) s.derived i.lawful.ordered (pairs_at s.nest leaf) slots i.lawful.derived i.fits.positions (among (loops_at s.nest [] leaf)) (node_at s.nest leaf) (lanes_at (run_tests stored s) s.nest [] slots leaf) (facts leaf i.stands.0) i.last u a)
+          (below_there stored s (stored_each stored s i.on.fits) s.derived i.on.lawful.ordered (pairs_at s.nest leaf) slots i.on.lawful.derived i.on.fits.positions (among (loops_at s.nest [] leaf)) (node_at s.nest leaf) (lanes_at (run_tests stored s) s.nest [] slots leaf) (facts leaf i.on.stands.0) i.last u a)
       go Done i a v = absurd a
 
   lane_below : (leaf x u n : ℕ) (lanes : Option Lanes) → LeafFacts s s.derived slots (among (loops_at s.nest [] leaf)) (pairs_at s.nest leaf) (node_at s.nest leaf) lanes → GuardsHold (run_tests stored s) (node_at s.nest leaf) (pairs_at s.nest leaf) slots lanes
@@ -173,7 +189,7 @@ module _ (stored : List StoredTensor) (s : Schedule) (path slots : List ℕ) (p 
   lane_below leaf x u n None f h m k e = absurd m
   lane_below leaf x u n (Some lanes) f h m k e =
       subst (λ (m : ℕ). m < slice_index s.extents u) (sym e)
-      (lane_below_there stored s (stored_each stored s i.fits) s.derived i.lawful.ordered (pairs_at s.nest leaf) slots i.lawful.derived i.fits.positions (among (loops_at s.nest [] leaf)) (node_at s.nest leaf) lanes f h x m u k)
+      (lane_below_there stored s (stored_each stored s i.on.fits) s.derived i.on.lawful.ordered (pairs_at s.nest leaf) slots i.on.lawful.derived i.on.fits.positions (among (loops_at s.nest [] leaf)) (node_at s.nest leaf) lanes f h x m u k)
 
   -- and so is one with a valid value of the substituted loop
   pub lane_value_below : (x u n : ℕ) → OnLanes (run_of stored s path slots p) (λ lanes. is_among x lanes.valid ≡ true) → HasLaneValue (run_of stored s path slots p) u → IsLaneValue (run_of stored s path slots p) x u n → n < slice_index s.extents u
@@ -182,5 +198,5 @@ module _ (stored : List StoredTensor) (s : Schedule) (path slots : List ℕ) (p 
       go : (p : Progress) → IsSound stored s path slots p → OnLanes (run_of stored s path slots p) (λ lanes. is_among x lanes.valid ≡ true) → HasLaneValue (run_of stored s path slots p) u → IsLaneValue (run_of stored s path slots p) x u n → n < slice_index s.extents u
       go Before i m a v = absurd m
       go (Resetting leaf past work) i m a v = absurd m
-      go (On leaf) i m a v = lane_below leaf x u n (lanes_at (run_tests stored s) s.nest [] slots leaf) (facts leaf i.stands.0) i.last m a v
+      go (On leaf) i m a v = lane_below leaf x u n (lanes_at (run_tests stored s) s.nest [] slots leaf) (facts leaf i.on.stands.0) i.last m a v
       go Done i m a v = absurd m

@@ -34,10 +34,12 @@ pub mod Schedule
 pub mod Standing
 pub mod Staying
 pub mod Sums
+pub mod Tables
 pub mod Tree
 pub mod TreeCode
 pub mod Truth
 pub mod Unit
 pub mod Values
 pub mod Visits
+pub mod Wheels
 pub mod World

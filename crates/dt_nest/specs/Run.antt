@@ -1,5 +1,5 @@
 -- A run over the visits of a schedule: the last item that it gave, and the items that it has left.
-use Rattle.std.specs.Prelude.{◌≡◌, ℕ, ◌+◌, ◌<◌, ◌≤◌, Bool, true, List, [], ◌∷◌, ◌++◌, length, map, filter, drop, Option, Some, None, MatchOption, option_map, nat_eq, slice_set}
+use Rattle.std.specs.Prelude.{◌≡◌, ◌⊎◌, ℕ, ◌+◌, ◌<◌, ◌≤◌, Bool, true, false, List, [], ◌∷◌, ◌++◌, length, map, filter, drop, Option, Some, None, MatchOption, option_map, nat_eq, slice_set}
 use Rattle.std.specs.List.{AllByRecursion, list_any, range_with_len}
 use Rattle.dt_model.specs.Positions.{StoredTensor}
 use Rattle.dt_nest.specs.declared.loops.Pair.{Pair}
@@ -17,6 +17,9 @@ use Rattle.dt_nest.specs.FitsStored.{FitsStored}
 use Rattle.dt_nest.specs.Visits.{LeafNode, Lanes, LeafVisit, Item, IsReset, IsVisit, Tests, value_in, tree_visits, visits_of, IsPath}
 use Rattle.dt_nest.specs.Odometer.{AreZero, IsAt, works_at, item_at, after}
 use Rattle.dt_nest.specs.Branch.{leaf_tree, loops_at, visit_at}
+use Rattle.dt_nest.specs.Tables.{IsTable}
+use Rattle.dt_nest.specs.Wheels.{AreWheels, turned}
+use Rattle.dt_nest.specs.declared.wheels.Wheels.{Wheels}
 
 -- A run: the schedule, the stored tensors, the last item, the loops around its leaf but a substituted one, and the items
 -- that are left.
@@ -174,15 +177,31 @@ abbrev pub LastHolds : Tests → Option Item → Type 0
 LastHolds t None = Unit {0}
 LastHolds t (Some item) = ItemHolds t item
 
--- What holds of the parts of a run.
-pub record IsSound (stored : List StoredTensor) (s : Schedule) (path slots : List ℕ) (p : Progress) : Type 0 where
+-- What holds of the parts of a run, wherever it stands.
+pub record CanGoOn (stored : List StoredTensor) (s : Schedule) (path slots : List ℕ) (p : Progress) : Type 0 where
   pub lawful : IsLawful s
   pub fits : FitsStored stored s
   pub goes : IsPath s path
   pub room : length slots ≡ length s.names
   pub stands : Stands s.nest slots p
-  pub last : LastHolds (run_tests stored s) (last_of (run_tests stored s) s.nest slots p)
   pub left : AllByRecursion (ItemHolds (run_tests stored s)) (left_of (run_tests stored s) s.nest path slots p)
+
+-- What holds of them where it gave the last item.
+pub record IsSound (stored : List StoredTensor) (s : Schedule) (path slots : List ℕ) (p : Progress) : Type 0 where
+  pub on : CanGoOn stored s path slots p
+  pub last : LastHolds (run_tests stored s) (last_of (run_tests stored s) s.nest slots p)
+
+-- What is kept beside a run: the wheels, the guards and the number of the last leaf, and at its visits the values of all
+-- variables.
+pub record IsKept (stored : List StoredTensor) (s : Schedule) (path slots : List ℕ) (p : Progress) (w : Wheels) (values : List (Option ℕ)) : Type 0 where
+  pub wheels : AreWheels s path w
+  pub room : length values ≡ length s.names
+  pub table : p ≡ On w.leaf → IsTable (world_of stored s) s.derived slots values
+
+-- what a step of the wheels came to: a visit, or none where a wheel went on or none can
+abbrev pub StepIs : Tests → Wheels → List ℕ → List ℕ → Bool → Type 0
+StepIs t w old new true = (turned w.items.items old ≡ Some new) × (t.holds w.guards.items [] new ≡ true)
+StepIs t w old new false = (new ≡ old) ⊎ ((turned w.items.items old ≡ Some new) × (t.holds w.guards.items [] new ≡ false))
 
 -- where a run came from one place: the item that it gave, and what is left
 abbrev pub Moves : Tests → Tree → List ℕ → List Item → List ℕ → Progress → Type 0

@@ -17,10 +17,13 @@ mod odometer_tests;
 mod parts;
 mod progress;
 mod schedules;
+mod stepping;
+mod tables;
 #[cfg(test)]
 mod tests;
 mod values;
 mod visits;
+mod wheels;
 
 pub use commands::{Rewrite, RewriteEnd, rewritten};
 pub use cuts::{Cut, Head, Heads};

@@ -1,10 +1,11 @@
 //! Where a run over visits stands, and how it goes on.
 
-ghost use Rattle.std.specs.Prelude.{◌≡◌, ◌≤◌, ◌<◌, ◌^◌, length, slice_get};
+ghost use Rattle.std.specs.Prelude.{◌≡◌, ◌≤◌, ◌<◌, ◌↔◌, ◌^◌, IsTrue, length, slice_get};
+ghost use Rattle.dt_nest.specs.declared.progress.Progress.TheVariants.{On};
 ghost use Rattle.dt_nest.specs.Schedule.{seen};
 ghost use Rattle.dt_nest.specs.Tree.{tree_of, leaf_count};
 ghost use Rattle.dt_nest.specs.Odometer.{works_at};
-ghost use Rattle.dt_nest.specs.Run.{ArrivesAt, IsSound, Moves, answer_at, left_of, run_tests, standing};
+ghost use Rattle.dt_nest.specs.Run.{ArrivesAt, CanGoOn, IsSound, Moves, answer_at, left_of, run_tests, standing};
 
 use crate::branches::work_of;
 use crate::loops::Nest;
@@ -39,6 +40,18 @@ impl Progress {
             Progress::Resetting { leaf, .. } => leaf,
             Progress::On { leaf } => leaf,
             Progress::Done => 0,
+        }
+    }
+
+    /// Whether the run stands on the leaf with this number.
+    pub fn is_on(self, leaf: u32) -> bool
+        ensures { IsTrue result ↔ (self ≡ On leaf) }
+    {
+        match self {
+            Progress::Before => false,
+            Progress::Resetting { .. } => false,
+            Progress::On { leaf: at } => at == leaf,
+            Progress::Done => false,
         }
     }
 
@@ -78,7 +91,7 @@ pub fn advanced<L: Locator>(
     progress: Progress,
     slots: &mut [u32],
 ) -> Progress
-    requires { IsSound (L.tensors against.now.loc.now) (seen against.now.parts.now) path.now slots.old progress }
+    requires { CanGoOn (L.tensors against.now.loc.now) (seen against.now.parts.now) path.now slots.old progress }
     ensures sound { IsSound (L.tensors against.now.loc.now) (seen against.now.parts.now) path.now slots.new result }
     ensures moves { Moves (run_tests (L.tensors against.now.loc.now) (seen against.now.parts.now)) (tree_of against.now.parts.now.nest) path.now (left_of (run_tests (L.tensors against.now.loc.now) (seen against.now.parts.now)) (tree_of against.now.parts.now.nest) path.now slots.old progress) slots.new result }
 {

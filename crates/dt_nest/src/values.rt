@@ -9,7 +9,7 @@ ghost use Rattle.dt_nest.specs.Lawful.{AreNamed, IsBounded};
 ghost use Rattle.dt_nest.specs.Naming.{pairs_in};
 ghost use Rattle.dt_nest.specs.Odometer.{guards_of};
 ghost use Rattle.dt_nest.specs.Tree.{tree_of};
-ghost use Rattle.dt_nest.specs.Values.{inside, inside_in, derived_inside, sum_inside, all_inside, guard_inside, takes_inside, inside_tests};
+ghost use Rattle.dt_nest.specs.Values.{bounded, inside, inside_in, derived_inside, sum_inside, all_inside, guard_inside, takes_inside, inside_tests};
 ghost use Rattle.dt_nest.specs.Prefix.{Filled};
 
 use crate::derivations::{Derive, Derived};
@@ -21,7 +21,7 @@ use crate::parts::SchedParts;
 use dt_model::Locator;
 
 /// A number of a list, and 0 past its end.
-fn number_at(list: &[u32], at: u32) -> u32
+pub(crate) fn number_at(list: &[u32], at: u32) -> u32
     ensures { result ≡ slice_index list.now at }
 {
     let at = at as usize;
@@ -29,7 +29,7 @@ fn number_at(list: &[u32], at: u32) -> u32
 }
 
 /// The coordinate of a tensor's position at a level, and 0 where there is none.
-fn coordinate<L: Locator>(loc: &L, tensor: u32, level: u8, p: u32) -> u32
+pub(crate) fn coordinate<L: Locator>(loc: &L, tensor: u32, level: u8, p: u32) -> u32
     requires { tensor < length (L.tensors loc.now) }
     ensures { result ≡ coordinate_at (L.tensors loc.now) tensor level p }
 {
@@ -40,9 +40,27 @@ fn coordinate<L: Locator>(loc: &L, tensor: u32, level: u8, p: u32) -> u32
     number_at(c.as_slice(), level as u32)
 }
 
+/// The value of a variable of a split, and none where it is not below its extent.
+pub(crate) fn split_value(
+    parts: &SchedParts,
+    v: u32,
+    outer: u32,
+    inner: u32,
+    factor: u32,
+) -> Option<u32>
+    ensures { result ≡ bounded (slice_index parts.now.extents v) (Some (outer * factor + inner)) }
+{
+    let sum = u64::from(outer) * u64::from(factor) + u64::from(inner);
+    if sum < u64::from(number_at(parts.extents.as_slice(), v)) {
+        Some(sum as u32)
+    } else {
+        None
+    }
+}
+
 /// The quotient, which is 0 for the divisor 0.
 #[tactic(auto)]
-fn quotient(x: u32, by: u32) -> u32
+pub(crate) fn quotient(x: u32, by: u32) -> u32
     ensures { result ≡ x / by }
 {
     if by == 0 { 0 } else { x / by }
@@ -50,7 +68,7 @@ fn quotient(x: u32, by: u32) -> u32
 
 /// What is left of a division, which is the number itself for the divisor 0.
 #[tactic(auto)]
-fn rest_of(x: u32, by: u32) -> u32
+pub(crate) fn rest_of(x: u32, by: u32) -> u32
     ensures { result ≡ x % by }
 {
     if by == 0 { x } else { x % by }
@@ -109,12 +127,7 @@ fn derived_value<L: Locator>(
         } => {
             let x = value(rest, parts, loc, naming, slots, naming.name(*outer))?;
             let y = value(rest, parts, loc, naming, slots, naming.name(*inner))?;
-            let sum = u64::from(x) * u64::from(*factor) + u64::from(y);
-            if sum < u64::from(number_at(parts.extents.as_slice(), v)) {
-                Some(sum as u32)
-            } else {
-                None
-            }
+            split_value(parts, v, x, y, *factor)
         }
         Derive::Quotient { fused, by } => {
             let x = value(rest, parts, loc, naming, slots, naming.name(*fused))?;

@@ -1,6 +1,6 @@
 //! The visits of a schedule's nest, one after another.
 
-ghost use Rattle.std.specs.Prelude.{◌≡◌, ◌<◌, true, IfOk, option_map, replicate, slice_index, unwrap_or};
+ghost use Rattle.std.specs.Prelude.{◌≡◌, ◌<◌, true, IfOk, length, option_map, replicate, slice_index, unwrap_or};
 ghost use Rattle.dt_nest.specs.Tree.{tree_of};
 ghost use Rattle.dt_nest.specs.FitsStored.{FitsStored};
 ghost use Rattle.dt_nest.specs.Visits.{IsPath};
@@ -10,9 +10,12 @@ use crate::branches::{Substituted, is_valid_at, leaf_of, substituted_of, value_o
 use crate::lanes::{Lane, Slots};
 use crate::loops::Nest;
 use crate::naming::Naming;
-use crate::progress::{Progress, Visit, advanced};
+use crate::progress::{Progress, Visit};
 use crate::schedules::Sched;
+use crate::stepping::stepped;
+use crate::tables::tabled;
 use crate::values::Against;
+use crate::wheels::Wheels;
 use dt_base::NoMemory;
 use dt_model::Locator;
 use std::alloc::Global;
@@ -46,6 +49,14 @@ fn zeros(alloc: Global, count: usize) -> Result<Vec<u32>, NoMemory>
     Ok(slots)
 }
 
+/// So many values, each none.
+fn no_values(alloc: Global, count: usize) -> Result<Vec<Option<u32>>, NoMemory>
+    ensures { IfOk result (λ values. length values.items ≡ count) }
+{
+    let values = vec![in alloc; None; count]?;
+    Ok(values)
+}
+
 /// A run over the visits of a schedule's nest that extend a path.
 #[derive(Drop)]
 pub struct Visits<'s, L: Locator> {
@@ -54,12 +65,14 @@ pub struct Visits<'s, L: Locator> {
     path: Vec<u32>,
     slots: Vec<u32>,
     progress: Progress,
+    wheels: Wheels,
+    values: Vec<Option<u32>>,
 }
 
 impl<'s, L: Locator> Model for Visits<'s, L> {
     ghost use Rattle.std.specs.Coded.{Coded, codes};
     ghost use Rattle.dt_nest.specs.TreeCode.{Node, tree_code};
-    ghost use Rattle.dt_nest.specs.Run.{IsSound, Run, run_of};
+    ghost use Rattle.dt_nest.specs.Run.{IsKept, IsSound, Run, run_of};
 
     ghost Value = { Run };
 
@@ -67,7 +80,7 @@ impl<'s, L: Locator> Model for Visits<'s, L> {
 
     ghost view = { λ a. run_of (L.tensors a.loc.now) a.sched.now a.path.items a.slots.items a.progress };
 
-    ghost invariant = { λ a. IsSound (L.tensors a.loc.now) a.sched.now a.path.items a.slots.items a.progress };
+    ghost invariant = { λ a. IsSound (L.tensors a.loc.now) a.sched.now a.path.items a.slots.items a.progress × IsKept (L.tensors a.loc.now) a.sched.now a.path.items a.slots.items a.progress a.wheels a.values.items };
 }
 
 impl<'s, L: Locator> Visits<'s, L> {
@@ -82,8 +95,11 @@ impl<'s, L: Locator> Visits<'s, L> {
         requires path { IsPath sched.now path.now }
         ensures { IfOk result (λ v. v ≡ run_over (L.tensors loc.now) sched.now path.now) }
     {
-        let names = sched.parts().names.as_slice().len();
+        let parts = sched.parts();
+        let names = parts.names.as_slice().len();
+        let wheels = Wheels::of(alloc, parts, path)?;
         let slots = zeros(alloc, names)?;
+        let values = no_values(alloc, names)?;
         let path = Vec::from_slice(alloc, path)?;
         Ok(Visits {
             sched,
@@ -91,6 +107,8 @@ impl<'s, L: Locator> Visits<'s, L> {
             path,
             slots,
             progress: Progress::Before,
+            wheels,
+            values,
         })
     }
 
@@ -104,8 +122,14 @@ impl<'s, L: Locator> Visits<'s, L> {
             parts: sched.parts(),
             loc: self.loc,
         };
-        let path = self.path.as_slice();
-        self.progress = advanced(&against, path, self.progress, self.slots.as_mut_slice());
+        self.progress = stepped(
+            &against,
+            self.path.as_slice(),
+            &self.wheels,
+            self.progress,
+            self.slots.as_mut_slice(),
+            self.values.as_mut_slice(),
+        );
         self.progress.answer()
     }
 
@@ -162,6 +186,9 @@ impl<'s, L: Locator> Visits<'s, L> {
         ensures value { IsValue self.now var result }
         ensures below { result < slice_index self.now.sched.extents var }
     {
+        if self.progress.is_on(self.wheels.leaf) {
+            return number_of(tabled(self.values.as_slice(), var));
+        }
         let sched = self.sched;
         let against = Against {
             parts: sched.parts(),

@@ -9,8 +9,8 @@ use Rattle.dt_nest.proofs.values.+value.Goals as goal
 
 pub derived_value-returns-in_ok-x-in-Rotate : goal.derived_value-returns-in_ok-x-in-Rotate
 derived_value-returns-in_ok-x-in-Rotate g t c =
-    rotate_ok (world_of (g.L.Locator.tensors c.args.loc.now) (seen c.args.parts.now)) c.args.v c.in-Rotate.base c.in-Rotate.extent c.max.result c.in_ok-x-in-Rotate.x c.in-Rotate.by c.as_slice-in-Rotate.result.now c.args.how.now (λ (u : ℕ). inside (world_of (g.L.Locator.tensors c.args.loc.now) (seen c.args.parts.now)) c.args.rest.now (renamed (pairs_in c.args.naming.now)) (slice_index c.args.slots.now) (renamed (pairs_in c.args.naming.now) u)) c.rotated.result
-    c.in-Rotate.is (ap (inside (world_of (g.L.Locator.tensors c.args.loc.now) (seen c.args.parts.now)) c.args.rest.now (renamed (pairs_in c.args.naming.now)) (slice_index c.args.slots.now)) (sym c.name-in-Rotate.ensures) ∙ sym c.in_ok-x-in-Rotate.ensures) c.as_slice-in-Rotate.ensures c.max.ensures c.rotated.ensures
+    rotate_ok (world_of (g.L.Locator.tensors c.args.loc.now) (seen c.args.parts.now)) c.args.v c.in-Rotate.base c.in-Rotate.extent c.max.result c.in_ok-x-in-Rotate.x c.in-Rotate.by c.as_slice.result.now c.args.how.now (λ (u : ℕ). inside (world_of (g.L.Locator.tensors c.args.loc.now) (seen c.args.parts.now)) c.args.rest.now (renamed (pairs_in c.args.naming.now)) (slice_index c.args.slots.now) (renamed (pairs_in c.args.naming.now) u)) c.rotated.result
+    c.in-Rotate.is (ap (inside (world_of (g.L.Locator.tensors c.args.loc.now) (seen c.args.parts.now)) c.args.rest.now (renamed (pairs_in c.args.naming.now)) (slice_index c.args.slots.now)) (sym c.name-in-Rotate.ensures) ∙ sym c.in_ok-x-in-Rotate.ensures) c.as_slice.ensures c.max.ensures c.rotated.ensures
 
 pub rotated-returns-in-None : goal.rotated-returns-in-None
 rotated-returns-in-None g t c =

@@ -24,7 +24,7 @@ returns-in-None-clause-value g c =
     sym (c.in-None.ensures
     ∙ ap (λ (r : Schedule). substituted_at r.nest c.leaf-leaf.result) c.parts.ensures.parts
     ∙ ap (substituted_at c.self.inside.sched.now.nest) c.leaf-leaf.ensures) in
-    absurd (lane_value_none (g.L.Locator.tensors c.self.inside.loc.now) c.self.inside.sched.now c.self.inside.path.items c.self.inside.slots.items c.self.inside.progress c.self.invariant c.args.x (subst (λ (r : Run). OnLanes r (λ lanes. is_among c.args.x lanes.valid ≡ true)) (sym c.self.view_is) c.requires.valid) n)
+    absurd (lane_value_none (g.L.Locator.tensors c.self.inside.loc.now) c.self.inside.sched.now c.self.inside.path.items c.self.inside.slots.items c.self.inside.progress c.self.invariant.0 c.args.x (subst (λ (r : Run). OnLanes r (λ lanes. is_among c.args.x lanes.valid ≡ true)) (sym c.self.view_is) c.requires.valid) n)
 
 pub returns-in-Some-clause-value : goal.returns-in-Some-clause-value
 returns-in-Some-clause-value g c =
@@ -40,7 +40,7 @@ returns-in-Some-clause-value g c =
     (c.with_lane-slots.ensures ∙ ap (λ (l : List ℕ). slice_set l c.in-Some.substituted.var c.args.x) c.as_slice.ensures.value) in
     subst (λ (n : ℕ). IsLaneValue c.args.self.now c.args.x c.args.var n) (sym c.number_of.ensures)
     (subst (λ (r : Run). IsLaneValue r c.args.x c.args.var (unwrap_or c.value_of.result 0)) c.self.view_is
-    (lane_value_answer (g.L.Locator.tensors c.self.inside.loc.now) c.self.inside.sched.now c.self.inside.path.items c.self.inside.slots.items c.self.inside.progress c.self.invariant c.args.x c.args.var c.value_of.result c.in-Some.substituted (subst (λ (r : Run). OnLanes r (λ lanes. is_among c.args.x lanes.valid ≡ true)) (sym c.self.view_is) c.requires.valid)
+    (lane_value_answer (g.L.Locator.tensors c.self.inside.loc.now) c.self.inside.sched.now c.self.inside.path.items c.self.inside.slots.items c.self.inside.progress c.self.invariant.0 c.args.x c.args.var c.value_of.result c.in-Some.substituted (subst (λ (r : Run). OnLanes r (λ lanes. is_among c.args.x lanes.valid ≡ true)) (sym c.self.view_is) c.requires.valid)
     (subst (λ (r : Run). HasLaneValue r c.args.var) (sym c.self.view_is) c.requires.valued) n e))
 
 pub returns-in-None-clause-below : goal.returns-in-None-clause-below
@@ -49,12 +49,12 @@ returns-in-None-clause-below g c =
     sym (c.in-None.ensures
     ∙ ap (λ (r : Schedule). substituted_at r.nest c.leaf-leaf.result) c.parts.ensures.parts
     ∙ ap (substituted_at c.self.inside.sched.now.nest) c.leaf-leaf.ensures) in
-    absurd (lane_value_none (g.L.Locator.tensors c.self.inside.loc.now) c.self.inside.sched.now c.self.inside.path.items c.self.inside.slots.items c.self.inside.progress c.self.invariant c.args.x (subst (λ (r : Run). OnLanes r (λ lanes. is_among c.args.x lanes.valid ≡ true)) (sym c.self.view_is) c.requires.valid) n)
+    absurd (lane_value_none (g.L.Locator.tensors c.self.inside.loc.now) c.self.inside.sched.now c.self.inside.path.items c.self.inside.slots.items c.self.inside.progress c.self.invariant.0 c.args.x (subst (λ (r : Run). OnLanes r (λ lanes. is_among c.args.x lanes.valid ≡ true)) (sym c.self.view_is) c.requires.valid) n)
 
 pub returns-in-Some-clause-below : goal.returns-in-Some-clause-below
 returns-in-Some-clause-below g c =
     let v : IsLaneValue c.args.self.now c.args.x c.args.var c.number_of.result = returns-in-Some-clause-value g c in
     subst (λ (r : Run). c.number_of.result < slice_index r.sched.extents c.args.var) c.self.view_is
-    (lane_value_below (g.L.Locator.tensors c.self.inside.loc.now) c.self.inside.sched.now c.self.inside.path.items c.self.inside.slots.items c.self.inside.progress c.self.invariant c.args.x c.args.var c.number_of.result (subst (λ (r : Run). OnLanes r (λ lanes. is_among c.args.x lanes.valid ≡ true)) (sym c.self.view_is) c.requires.valid)
+    (lane_value_below (g.L.Locator.tensors c.self.inside.loc.now) c.self.inside.sched.now c.self.inside.path.items c.self.inside.slots.items c.self.inside.progress c.self.invariant.0 c.args.x c.args.var c.number_of.result (subst (λ (r : Run). OnLanes r (λ lanes. is_among c.args.x lanes.valid ≡ true)) (sym c.self.view_is) c.requires.valid)
     (subst (λ (r : Run). HasLaneValue r c.args.var) (sym c.self.view_is) c.requires.valued)
     (subst (λ (r : Run). IsLaneValue r c.args.x c.args.var c.number_of.result) (sym c.self.view_is) v))

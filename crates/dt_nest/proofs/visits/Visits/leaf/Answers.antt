@@ -18,7 +18,7 @@ returns-clause-leaf g c =
     ∙ ap (leaf_at c.self.inside.sched.now.nest) c.leaf.ensures in
     subst (λ (t : Tree). IsLeafOf c.args.self.now t) (sym e)
     (subst (λ (r : Run). IsLeafOf r (leaf_at c.self.inside.sched.now.nest (standing c.self.inside.progress))) c.self.view_is
-    (leaf_answer (g.L.Locator.tensors c.self.inside.loc.now) c.self.inside.sched.now c.self.inside.path.items c.self.inside.slots.items c.self.inside.progress c.self.invariant (subst IsAtLeaf (sym c.self.view_is) c.requires)))
+    (leaf_answer (g.L.Locator.tensors c.self.inside.loc.now) c.self.inside.sched.now c.self.inside.path.items c.self.inside.slots.items c.self.inside.progress c.self.invariant.0 (subst IsAtLeaf (sym c.self.view_is) c.requires)))
 
 pub returns-clause-valued : goal.returns-clause-valued
-returns-clause-valued g c = subst AreValued c.self.view_is (leaf_valued (g.L.Locator.tensors c.self.inside.loc.now) c.self.inside.sched.now c.self.inside.path.items c.self.inside.slots.items c.self.inside.progress c.self.invariant (subst IsAtLeaf (sym c.self.view_is) c.requires))
+returns-clause-valued g c = subst AreValued c.self.view_is (leaf_valued (g.L.Locator.tensors c.self.inside.loc.now) c.self.inside.sched.now c.self.inside.path.items c.self.inside.slots.items c.self.inside.progress c.self.invariant.0 (subst IsAtLeaf (sym c.self.view_is) c.requires))

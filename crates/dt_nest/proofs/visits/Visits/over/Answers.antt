@@ -1,20 +1,30 @@
 use Rattle.std.proofs.Common.{◌≡◌, ℕ, List, length, replicate, sym, ap, ◌∙◌, subst}
 use Rattle.dt_nest.specs.declared.progress.Progress.TheVariants.{Before}
 use Rattle.dt_nest.specs.Schedule.{Schedule}
-use Rattle.dt_nest.specs.Run.{run_of, IsSound}
-use Rattle.dt_nest.proofs.RunFacts.{sound_before, starts}
+use Rattle.dt_nest.specs.Wheels.{AreWheels}
+use Rattle.dt_nest.proofs.OwnSlots.{few_in}
+use Rattle.dt_nest.specs.Schedule.{seen}
+use Rattle.dt_nest.specs.Run.{run_of, IsKept, IsSound}
+use Rattle.dt_nest.proofs.RunFacts.{kept_before, sound_before, starts}
 use Rattle.dt_nest.proofs.visits.Visits.over.Goals as goal
 
 pub invariant_of-result : goal.invariant_of-result
 invariant_of-result g c =
     let p = c.in_ok-path.ensures.items in
-    let e : c.in_ok-slots.slots.items ≡ replicate (length c.args.sched.now.names) 0 = c.in_ok-slots.ensures ∙ ap (λ (n : ℕ). replicate n 0) (ap length c.as_slice-names.ensures ∙ ap (λ (r : Schedule). length r.names) c.parts.ensures.parts) in
-    subst (λ (l : List ℕ). IsSound (g.L.Locator.tensors c.args.loc.now) c.args.sched.now l c.in_ok-slots.slots.items Before) (sym p)
-    (sound_before (g.L.Locator.tensors c.args.loc.now) c.args.sched.now c.args.path.now c.in_ok-slots.slots.items c.parts.ensures.lawful c.requires.fits c.requires.path e)
+    let e : c.in_ok-slots.slots.items ≡ replicate (length c.args.sched.now.names) 0 = c.in_ok-slots.ensures ∙ ap (λ (n : ℕ). replicate n 0) (ap length c.as_slice-names.ensures ∙ ap (λ (r : Schedule). length r.names) c.parts-parts.ensures.parts) in
+    subst (λ (l : List ℕ). IsSound (g.L.Locator.tensors c.args.loc.now) c.args.sched.now l c.in_ok-slots.slots.items Before × IsKept (g.L.Locator.tensors c.args.loc.now) c.args.sched.now l c.in_ok-slots.slots.items Before c.in_ok-wheels.wheels c.in_ok-values.values.items) (sym p) (
+      sound_before (g.L.Locator.tensors c.args.loc.now) c.args.sched.now c.args.path.now c.in_ok-slots.slots.items c.parts-parts.ensures.lawful c.requires.fits c.requires.path e,
+      kept_before (g.L.Locator.tensors c.args.loc.now) c.args.sched.now c.args.path.now c.in_ok-slots.slots.items c.in_ok-wheels.wheels c.in_ok-values.values.items
+          (subst (λ (r : Schedule). AreWheels r c.args.path.now c.in_ok-wheels.wheels) c.parts-parts.ensures.parts c.in_ok-wheels.ensures)
+          (c.in_ok-values.ensures ∙ ap length c.as_slice-names.ensures ∙ ap (λ (r : Schedule). length r.names) c.parts-parts.ensures.parts),
+    )
 
 pub returns : goal.returns
 returns g c =
     let p = c.in_ok-path.ensures.items in
-    let e : c.in_ok-slots.slots.items ≡ replicate (length c.args.sched.now.names) 0 = c.in_ok-slots.ensures ∙ ap (λ (n : ℕ). replicate n 0) (ap length c.as_slice-names.ensures ∙ ap (λ (r : Schedule). length r.names) c.parts.ensures.parts) in
+    let e : c.in_ok-slots.slots.items ≡ replicate (length c.args.sched.now.names) 0 = c.in_ok-slots.ensures ∙ ap (λ (n : ℕ). replicate n 0) (ap length c.as_slice-names.ensures ∙ ap (λ (r : Schedule). length r.names) c.parts-parts.ensures.parts) in
     ap (λ (l : List ℕ). run_of (g.L.Locator.tensors c.args.loc.now) c.args.sched.now l c.in_ok-slots.slots.items Before) p
-    ∙ starts (g.L.Locator.tensors c.args.loc.now) c.args.sched.now c.args.path.now c.in_ok-slots.slots.items c.parts.ensures.lawful c.requires.fits e
+    ∙ starts (g.L.Locator.tensors c.args.loc.now) c.args.sched.now c.args.path.now c.in_ok-slots.slots.items c.parts-parts.ensures.lawful c.requires.fits e
+
+pub of-requires : goal.of-requires
+of-requires g c = few_in (seen c.parts-parts.result.now) c.args.sched.now c.parts-parts.ensures.parts c.parts-parts.ensures.lawful

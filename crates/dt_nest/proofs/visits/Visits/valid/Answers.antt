@@ -17,4 +17,4 @@ returns g c =
     ∙ ap (λ (k : ℕ). valid_at (run_tests (g.L.Locator.tensors c.self.inside.loc.now) c.self.inside.sched.now) c.self.inside.sched.now.nest [] c.as_slice.result.now k c.args.x) c.leaf.ensures
     ∙ ap (λ (l : List ℕ). valid_at (run_tests (g.L.Locator.tensors c.self.inside.loc.now) c.self.inside.sched.now) c.self.inside.sched.now.nest [] l (standing c.self.inside.progress) c.args.x) c.as_slice.ensures.value in
     subst (λ (r : Run). OnLanes r (λ lanes. c.is_valid_at.result ≡ is_among c.args.x lanes.valid)) c.self.view_is
-    (valid_answer (g.L.Locator.tensors c.self.inside.loc.now) c.self.inside.sched.now c.self.inside.path.items c.self.inside.slots.items c.self.inside.progress c.self.invariant c.args.x c.is_valid_at.result (subst (λ (r : Run). OnLanes r (λ lanes. c.args.x < lanes.extent)) (sym c.self.view_is) c.requires) e)
+    (valid_answer (g.L.Locator.tensors c.self.inside.loc.now) c.self.inside.sched.now c.self.inside.path.items c.self.inside.slots.items c.self.inside.progress c.self.invariant.0 c.args.x c.is_valid_at.result (subst (λ (r : Run). OnLanes r (λ lanes. c.args.x < lanes.extent)) (sym c.self.view_is) c.requires) e)

@@ -1,0 +1,145 @@
+-- Lists with the values of all variables, as they are filled.
+use Rattle.std.proofs.Common.{◌≡◌, ℕ, ◌+◌, ◌*◌, ◌<◌, ◌≤◌, Bool, true, false, ◌&&◌, ◌||◌, List, [], ◌∷◌, length, Option, Some, None, refl, sym, ap, ◌∙◌, subst, arith}
+use Rattle.std.specs.Prelude.{if◌then◌else◌, MatchBool, is_some, nat_eq, nat_lt, slice_index}
+use Rattle.std.specs.List.{AllByRecursion, list_all}
+use Rattle.std.proofs.Math.Path.{fun_ext}
+use Rattle.std.proofs.Math.ListN.{set}
+use Rattle.std.proofs.lemmas.Bool.{eqb-true, eq-eqb, ltb-true, ltb-false}
+use Rattle.std.proofs.lemmas.List.{get_or-set_other, get_or-set_same, get_or_past}
+use Rattle.dt_nest.specs.declared.derivations.Derive.{Derive}
+use Rattle.dt_nest.specs.declared.derivations.Derive.TheVariants.{Split, Quotient, Rest, Rotate, Pos}
+use Rattle.dt_nest.specs.declared.derivations.Derived.{Derived}
+use Rattle.dt_nest.specs.Meaning.{World}
+use Rattle.dt_nest.specs.Lawful.{is_replaced, is_split}
+use Rattle.dt_nest.specs.Values.{bounded, derived_inside, guard_inside, inside, inside_in, inside_tests, is_below, joined}
+use Rattle.dt_nest.specs.Tables.{tabled, IsSplitVar, IsTable}
+
+-- a number that is another one, or not
+by_number : (u v : ℕ) (P : Type 0) → (u ≡ v → P) → (nat_eq u v ≡ false → (u ≡ v → ⊥) → P) → P
+by_number u v P f g = go (nat_eq u v) (eqb-true u v) refl
+  where
+    go : (b : Bool) → (b ≡ true → u ≡ v) → nat_eq u v ≡ b → P
+    go true e k = f (e refl)
+    go false e k = g k (λ p. let t : nat_eq u v ≡ true = eq-eqb u v p in absurd (cc))
+
+module _ (slots : List ℕ) (values : List (Option ℕ)) where
+  -- a variable with the number in its slot
+  pub set_slot : (v u : ℕ) → v < length values → (nat_eq u v ≡ false → tabled values u ≡ Some (slice_index slots u)) → tabled (set values v (Some (slice_index slots v))) u ≡ Some (slice_index slots u)
+  set_slot v u l h =
+      by_number u v (tabled (set values v (Some (slice_index slots v))) u ≡ Some (slice_index slots u))
+      (λ e. subst (λ (x : ℕ). tabled (set values v (Some (slice_index slots v))) x ≡ Some (slice_index slots x)) (sym e) (get_or-set_same values v (Some (slice_index slots v)) (Some 0) l))
+      (λ k n. get_or-set_other values v u (Some (slice_index slots v)) (Some 0) n ∙ h k)
+
+  -- one more variable
+  pub more_slots : (k : ℕ) → k < length values → ((v : ℕ) → v < k → tabled values v ≡ Some (slice_index slots v)) → (v : ℕ) → v < k + 1 → tabled (set values k (Some (slice_index slots k))) v ≡ Some (slice_index slots v)
+  more_slots k l h v b = set_slot k v l (λ e. h v (let n : v ≡ k → ⊥ = (λ p. let t : nat_eq v k ≡ true = eq-eqb v k p in absurd (cc)) in below v k b n))
+    where
+      below : (v k : ℕ) → v < k + 1 → (v ≡ k → ⊥) → v < k
+      below v k b n = go (nat_lt v k) (ltb-true v k) (ltb-false v k)
+        where
+          go : (t : Bool) → (t ≡ true → v < k) → (t ≡ false → k ≤ v) → v < k
+          go true p q = p refl
+          go false p q = absurd (n (let r = q refl in omega (arith, r)))
+
+  -- all variables
+  pub all_slots : (k : ℕ) → length values ≡ length slots → length values ≤ k → ((v : ℕ) → v < k → tabled values v ≡ Some (slice_index slots v)) → (v : ℕ) → tabled values v ≡ Some (slice_index slots v)
+  all_slots k e l h v = go (nat_lt v k) (ltb-true v k) (ltb-false v k)
+    where
+      go : (t : Bool) → (t ≡ true → v < k) → (t ≡ false → k ≤ v) → tabled values v ≡ Some (slice_index slots v)
+      go true p q = h v (p refl)
+      go false p q =
+          let r = q refl in let a : length values ≤ v = omega (arith, l, r) in let b : length slots ≤ v = omega (arith, a, e) in
+          get_or_past values v (Some 0) a ∙ ap Some (sym (get_or_past slots v 0 b))
+
+  -- one more derived variable has the number in its slot again
+  pub more_derived : (ds rest : List Derived) (d : Derived) → ds ≡ d ∷ rest → d.var < length values → ((u : ℕ) → is_replaced ds u ≡ false → tabled values u ≡ Some (slice_index slots u))
+      → (u : ℕ) → is_replaced rest u ≡ false → tabled (set values d.var (Some (slice_index slots d.var))) u ≡ Some (slice_index slots u)
+  more_derived ds rest d e l h u r = set_slot d.var u l (λ k. h u (ap (λ (l : List Derived). is_replaced l u) e ∙ ap (λ (b : Bool). b || is_replaced rest u) k ∙ r))
+
+module _ (w : World) (slots : List ℕ) where
+  -- no derivation
+  pub table_none : (values : List (Option ℕ)) → ((u : ℕ) → tabled values u ≡ Some (slice_index slots u)) → IsTable w [] slots values
+  unfolding inside
+  table_none values h u = h u
+
+  -- one more derivation
+  pub table_more : (values : List (Option ℕ)) (d : Derived) (rest ds : List Derived) (x : Option ℕ) → d.var < length values → IsTable w rest slots values → ds ≡ d ∷ rest → x ≡ derived_inside w d.var d.how (tabled values) → IsTable w ds slots (set values d.var x)
+  unfolding inside
+  table_more values d rest ds x l h e r u =
+      let same : tabled values ≡ inside_in w rest [] slots = fun_ext h in
+      ap (λ (y : Option ℕ). tabled (set values d.var y) u) (r ∙ ap (derived_inside w d.var d.how) same)
+      ∙ go (nat_eq u d.var) refl (eqb-true u d.var)
+      ∙ ap (λ (l : List Derived). inside_in w l [] slots u) (sym e)
+    where
+      go : (b : Bool) → nat_eq u d.var ≡ b → (b ≡ true → u ≡ d.var)
+          → tabled (set values d.var (derived_inside w d.var d.how (inside_in w rest [] slots))) u ≡ (if b then derived_inside w d.var d.how (inside_in w rest [] slots) else inside_in w rest [] slots u)
+      go true k p =
+          ap (λ (v : ℕ). tabled (set values d.var (derived_inside w d.var d.how (inside_in w rest [] slots))) v) (p refl)
+          ∙ get_or-set_same values d.var (derived_inside w d.var d.how (inside_in w rest [] slots)) (Some 0) l
+      go false k p =
+          get_or-set_other values d.var u (derived_inside w d.var d.how (inside_in w rest [] slots)) (Some 0) (λ q. let t : nat_eq u d.var ≡ true = eq-eqb u d.var q in absurd (cc)) ∙ h u
+
+-- a loop that was not replaced has its own value
+inside_loop : (w : World) (ds : List Derived) (slots : List ℕ) (u : ℕ) → is_replaced ds u ≡ false → inside_in w ds [] slots u ≡ Some (slice_index slots u)
+unfolding inside
+inside_loop w [] slots u r = refl
+inside_loop w (d ∷ ds) slots u r = go (nat_eq u d.var) r (inside_loop w ds slots u)
+  where
+    go : (b : Bool) → (b || is_replaced ds u) ≡ false → (is_replaced ds u ≡ false → inside_in w ds [] slots u ≡ Some (slice_index slots u))
+        → (if b then derived_inside w d.var d.how (inside_in w ds [] slots) else inside_in w ds [] slots u) ≡ Some (slice_index slots u)
+    go true e h = absurd (cc)
+    go false e h = h e
+
+-- where loops follow their slots, they still have their own values
+pub loops_follow : (w : World) (ds : List Derived) (old new : List ℕ) (values after : List (Option ℕ)) → IsTable w ds old values
+    → ((u : ℕ) → tabled values u ≡ Some (slice_index old u) → tabled after u ≡ Some (slice_index new u)) → (u : ℕ) → is_replaced ds u ≡ false → tabled after u ≡ Some (slice_index new u)
+loops_follow w ds old new values after t f u r = f u (t u ∙ inside_loop w ds old u r)
+
+-- guards hold by a table
+pub table_holds : (w : World) (ds : List Derived) (slots : List ℕ) (values : List (Option ℕ)) (guards : List ℕ) → IsTable w ds slots values
+    → list_all (λ g. is_below (w.extent g) (tabled values g)) guards ≡ (inside_tests w ds).holds guards [] slots
+table_holds w ds slots values guards t = ap (λ (val : ℕ → Option ℕ). list_all (guard_inside w val) guards) (fun_ext t)
+
+-- where one more variable has a value, all that had one still have it
+pub set_full : (values : List (Option ℕ)) (v : ℕ) (x : Option ℕ) (full some : Bool) → v < length values → (full && some) ≡ true → some ≡ is_some x → (full ≡ true → (u : ℕ) → is_some (tabled values u) ≡ true)
+    → (u : ℕ) → is_some (tabled (set values v x) u) ≡ true
+set_full values v x true some l e s h u =
+    by_number u v (is_some (tabled (set values v x) u) ≡ true)
+    (λ p. ap (λ (k : ℕ). is_some (tabled (set values v x) k)) p ∙ ap is_some (get_or-set_same values v x (Some 0) l) ∙ sym s ∙ e)
+    (λ k n. ap is_some (get_or-set_other values v u x (Some 0) n) ∙ h refl u)
+set_full values v x false some l e s h u = absurd (cc)
+
+-- a value of a variable of a split is below its extent
+split_below : (w : World) (slots : List ℕ) (ds : List Derived) (v : ℕ) → IsSplitVar ds v → is_some (inside_in w ds [] slots v) ≡ true → is_below (w.extent v) (inside_in w ds [] slots v) ≡ true
+unfolding inside
+split_below w slots [] v s e = absurd s
+split_below w slots (d ∷ ds) v s e = go (nat_eq v d.var) (eqb-true v d.var) s e (split_below w slots ds v)
+  where
+    kept : (n : ℕ) (o : Option ℕ) → is_some (bounded n o) ≡ true → is_below n (bounded n o) ≡ true
+    kept n None e = absurd (cc)
+    kept n (Some x) e = at (nat_lt x n) refl e
+      where
+        at : (b : Bool) → nat_lt x n ≡ b → is_some (if b then Some x else None) ≡ true → is_below n (if b then Some x else None) ≡ true
+        at true p e = p
+        at false p e = absurd (cc)
+
+    of_split : (how : Derive) → is_split how ≡ true → is_some (derived_inside w d.var how (inside_in w ds [] slots)) ≡ true → is_below (w.extent d.var) (derived_inside w d.var how (inside_in w ds [] slots)) ≡ true
+    of_split (Split outer inner factor) p e = kept (w.extent d.var) (joined (λ x y. x * factor + y) (inside_in w ds [] slots outer) (inside_in w ds [] slots inner)) e
+    of_split (Quotient fused by) p e = absurd (cc)
+    of_split (Rest fused by) p e = absurd (cc)
+    of_split (Rotate base by extent) p e = absurd (cc)
+    of_split (Pos tensor level base) p e = absurd (cc)
+
+    go : (b : Bool) → (b ≡ true → v ≡ d.var) → MatchBool b (is_split d.how ≡ true) (IsSplitVar ds v) → is_some (if b then derived_inside w d.var d.how (inside_in w ds [] slots) else inside_in w ds [] slots v) ≡ true
+        → (IsSplitVar ds v → is_some (inside_in w ds [] slots v) ≡ true → is_below (w.extent v) (inside_in w ds [] slots v) ≡ true)
+        → is_below (w.extent v) (if b then derived_inside w d.var d.how (inside_in w ds [] slots) else inside_in w ds [] slots v) ≡ true
+    go true p s e h = ap (λ (k : ℕ). is_below (w.extent k) (derived_inside w d.var d.how (inside_in w ds [] slots))) (p refl) ∙ of_split d.how s e
+    go false p s e h = h s e
+
+-- where all variables have values, guards that are variables of splits hold
+pub full_holds : (w : World) (ds : List Derived) (slots : List ℕ) (values : List (Option ℕ)) (guards : List ℕ) → IsTable w ds slots values → AllByRecursion (IsSplitVar ds) guards → ((u : ℕ) → is_some (tabled values u) ≡ true)
+    → (inside_tests w ds).holds guards [] slots ≡ true
+full_holds w ds slots values [] t s f = refl
+full_holds w ds slots values (g ∷ guards) t s f =
+    ap (λ (b : Bool). b && list_all (guard_inside w (inside_in w ds [] slots)) guards) (split_below w slots ds g s.0 (ap is_some (sym (t g)) ∙ f g))
+    ∙ full_holds w ds slots values guards t s.1 f

@@ -1,0 +1,51 @@
+use Rattle.std.proofs.Common.{◌≡◌, ◌<◌, ◌-◌, ℕ, suc, List, [], ◌∷◌, length, drop, refl, sym, ap, ◌∙◌, subst, arith, drop-cons}
+use Rattle.std.proofs.lemmas.List.{drop_all}
+use Rattle.std.proofs.Math.ListN.{length-set}
+use Rattle.std.specs.Prelude.{is_some}
+use Rattle.dt_nest.specs.declared.derivations.Derived.{Derived}
+use Rattle.dt_nest.specs.Schedule.{seen}
+use Rattle.dt_nest.specs.World.{world_of}
+use Rattle.dt_nest.specs.Lawful.{sources, IsBounded}
+use Rattle.std.specs.List.{AllByRecursion}
+use Rattle.dt_nest.specs.Tables.{IsTable}
+use Rattle.dt_nest.specs.Each.{all_get}
+use Rattle.dt_nest.proofs.TableFacts.{set_full, table_none, table_more}
+use Rattle.dt_nest.proofs.tables.fill_derived.Goals as goal
+
+pub loop-k-init : goal.loop-k-init
+loop-k-init g c =
+    let none : drop (length c.args.derived.now) c.args.derived.now ≡ [] = drop_all (length c.args.derived.now) c.args.derived.now (omega arith) in
+    record {
+      same = refl;
+      within = omega arith;
+      done = subst (λ (l : List Derived). IsTable (world_of (g.L.Locator.tensors c.args.loc.now) (seen c.args.parts.now)) l c.args.slots.now c.args.values.now) (sym none)
+          (table_none (world_of (g.L.Locator.tensors c.args.loc.now) (seen c.args.parts.now)) c.args.slots.now c.args.values.now c.requires.values);
+      full = λ e u. ap is_some (c.requires.values u);
+    }
+
+pub loop-k-preserved : goal.loop-k-preserved
+loop-k-preserved g c =
+    let l : c.loop-k.k - 1 < length c.args.derived.now = omega (arith, c.loop-k.invariant.within, c.loop-k-test.true) in
+    let k : suc (c.loop-k.k - 1) ≡ c.loop-k.k = omega (arith, c.loop-k-test.true) in
+    let rest : drop (c.loop-k.k - 1) c.args.derived.now ≡ c.index-derived-k.result ∷ drop c.loop-k.k c.args.derived.now =
+    drop-cons c.args.derived.now (c.loop-k.k - 1) c.index-derived-k.result l
+    ∙ ap (λ (d : Derived). d ∷ drop (suc (c.loop-k.k - 1)) c.args.derived.now) (sym c.index-derived-k.is)
+    ∙ ap (λ (m : ℕ). c.index-derived-k.result ∷ drop m c.args.derived.now) k in
+    let named = all_get (λ (d : Derived). (d.var < length (seen c.args.parts.now).names) × AllByRecursion (λ u. u < length (seen c.args.parts.now).names) (sources d.how) × IsBounded (seen c.args.parts.now) d.var d.how)
+    c.args.derived.now (c.loop-k.k - 1) c.index-derived-k.result c.requires.named l in
+    let within : c.index-derived-k.result.var < length c.loop-k.values = omega (arith, ap (λ (d : Derived). d.var) c.index-derived-k.is, named.0, c.requires.room, c.loop-k.invariant.same) in
+    record {
+      same = length-set c.loop-k.values c.index-derived-k.result.var c.derived_from-value.result ∙ c.loop-k.invariant.same;
+      within = omega (arith, l);
+      done = table_more (world_of (g.L.Locator.tensors c.args.loc.now) (seen c.args.parts.now)) c.args.slots.now c.loop-k.values c.index-derived-k.result (drop c.loop-k.k c.args.derived.now) (drop (c.loop-k.k - 1) c.args.derived.now) c.derived_from-value.result
+          within c.loop-k.invariant.done rest c.derived_from-value.ensures;
+      full = λ e. set_full c.loop-k.values c.index-derived-k.result.var c.derived_from-value.result c.loop-k.full c.is_some.result within (sym c.both-full.ensures ∙ e) c.is_some.ensures c.loop-k.invariant.full;
+    }
+
+pub derived_from-value-requires-clause-within : goal.derived_from-value-requires-clause-within
+derived_from-value-requires-clause-within g c =
+    let l : c.loop-k.k - 1 < length c.args.derived.now = omega (arith, c.loop-k.invariant.within, c.loop-k-test.true) in
+    let named = all_get (λ (d : Derived). (d.var < length (seen c.args.parts.now).names) × AllByRecursion (λ u. u < length (seen c.args.parts.now).names) (sources d.how) × IsBounded (seen c.args.parts.now) d.var d.how)
+    c.args.derived.now (c.loop-k.k - 1) c.index-derived-k.result c.requires.named l in
+    subst (λ (n : ℕ). AllByRecursion (λ u. u < n) (sources c.index-derived-k.result.how)) (sym (c.loop-k.invariant.same ∙ c.requires.room))
+    (subst (λ (d : Derived). AllByRecursion (λ u. u < length (seen c.args.parts.now).names) (sources d.how)) (sym c.index-derived-k.is) named.1)

@@ -1,0 +1,51 @@
+-- The loops just around the last leaf of a nest, which turn as the wheels of an odometer do: at each step the innermost
+-- one that is not at its last value goes on, and those inside it start again.
+use Rattle.std.specs.Prelude.{◌≡◌, ℕ, ◌+◌, ◌-◌, Bool, false, List, [], ◌∷◌, ◌++◌, not, Option, Some, None, option_map, if◌then◌else◌, nat_lt, slice_index, slice_set}
+use Rattle.dt_nest.specs.declared.wheels.Wheel.{Wheel}
+use Rattle.dt_nest.specs.declared.wheels.Wheels.{Wheels}
+use Rattle.std.specs.Bool.{OnTrue}
+use Rattle.std.specs.List.{AllByRecursion}
+use Rattle.dt_nest.specs.Schedule.{Schedule}
+use Rattle.dt_nest.specs.Tables.{IsSplitVar}
+use Rattle.dt_nest.specs.Tree.{Tree, Loop, Pre, Leaf, leaf_count, is_stored_kernel}
+
+-- whether a tree is a leaf in loops that are neither walked nor substituted
+abbrev pub is_plain : Tree → Bool
+is_plain (Loop v n None body) = is_plain body
+is_plain (Loop v n (Some walk) body) = false
+is_plain (Pre work more producer consumer) = false
+is_plain (Leaf lhs terms guards kernel) = not (is_stored_kernel kernel)
+
+-- the loops down to a leaf or a precompute node, the innermost first
+abbrev pub wheels_of : Tree → List Wheel
+wheels_of (Loop v n walk body) = wheels_of body ++ record { var = v; last = n - 1 } ∷ []
+wheels_of (Pre work more producer consumer) = []
+wheels_of (Leaf lhs terms guards kernel) = []
+
+-- the wheels of a nest: the loops around its last leaf, below a path, up to a loop that is walked or a precompute node
+abbrev pub last_wheels : Tree → List ℕ → List Wheel
+last_wheels (Loop v n walk body) [] = if is_plain (Loop v n walk body) then wheels_of (Loop v n walk body) else last_wheels body []
+last_wheels (Loop v n walk body) (x ∷ path) = last_wheels body path
+last_wheels (Pre work more producer consumer) path = last_wheels consumer []
+last_wheels (Leaf lhs terms guards kernel) path = []
+
+-- the guards of the last leaf
+abbrev pub last_guards : Tree → List ℕ
+last_guards (Loop v n walk body) = last_guards body
+last_guards (Pre work more producer consumer) = last_guards consumer
+last_guards (Leaf lhs terms guards kernel) = guards
+
+-- the slots after a step, where a wheel can go on
+abbrev pub turned : List Wheel → List ℕ → Option (List ℕ)
+turned [] slots = None
+turned (w ∷ ws) slots =
+    if nat_lt (slice_index slots w.var) w.last then Some (slice_set slots w.var (slice_index slots w.var + 1))
+    else option_map (λ s. slice_set s w.var 0) (turned ws slots)
+
+-- the wheels of a schedule's nest, with the guards and the number of its last leaf, and whether each guard is a variable of
+-- a split
+pub record AreWheels (s : Schedule) (path : List ℕ) (w : Wheels) : Type 0 where
+  pub items : w.items.items ≡ last_wheels s.nest path
+  pub guards : w.guards.items ≡ last_guards s.nest
+  pub leaf : w.leaf ≡ leaf_count s.nest - 1
+  pub splits : OnTrue w.splits (AllByRecursion (IsSplitVar s.derived) w.guards.items)
