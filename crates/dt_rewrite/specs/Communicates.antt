@@ -1,10 +1,11 @@
 -- Tensors that are moved once for each iteration of a loop: when it is lawful, and what it makes of a schedule.
-use Rattle.std.specs.Prelude.{ℕ, ◌+◌, ◌-◌, ◌&&◌, ◌||◌, Bool, not, List, [], ◌∷◌, ◌++◌, length, map, Option, Some, None, if◌then◌else◌, nat_eq, nat_lt, slice_index_or}
-use Rattle.std.specs.List.{list_any}
+use Rattle.std.specs.Prelude.{ℕ, zero, suc, ◌+◌, ◌-◌, ◌&&◌, ◌||◌, Bool, not, List, [], ◌∷◌, ◌++◌, length, map, Option, Some, None, option_map, find, if◌then◌else◌, nat_eq, nat_lt, slice_index_or}
+use Rattle.std.specs.List.{last_or, list_any}
+use Rattle.std.specs.Option.{option_or}
 use Rattle.dt_model.specs.declared.cause.Cause.{Cause}
 use Rattle.dt_model.specs.declared.cause.Cause.TheVariants as cause
 use Rattle.dt_nest.specs.declared.parts.Moved.{Moved}
-use Rattle.dt_nest.specs.Tree.{Tree, loop_count, accesses_of}
+use Rattle.dt_nest.specs.Tree.{Tree, Loop, Pre, Leaf, loop_count, accesses_of}
 use Rattle.dt_nest.specs.Place.{is_among}
 use Rattle.dt_nest.specs.Schedule.{Schedule}
 use Rattle.dt_rewrite.specs.declared.communicates.Communicate.{Communicate}
@@ -63,3 +64,18 @@ moves_at v ts = map (λ t. record { tensor = t; at = v }) ts
 -- the schedule after a communicate
 abbrev pub communicate_effect : Communicate → Schedule → Schedule
 communicate_effect c s = record s { moved = s.moved ++ moves_at c.var c.tensors }
+
+-- the first k loops from the outside in
+abbrev pub distributed_loops : ℕ → Tree → List ℕ
+distributed_loops zero tree = []
+distributed_loops (suc k) (Loop v n walk body) = v ∷ distributed_loops k body
+distributed_loops (suc k) (Pre work pairs producer consumer) = []
+distributed_loops (suc k) (Leaf lhs terms guards kernel) = []
+
+-- the loop at which a communicate moves the tensor
+abbrev pub named_loop : List Moved → ℕ → Option ℕ
+named_loop moved t = option_map (λ (m : Moved). m.at) (find (λ m. nat_eq m.tensor t) moved)
+
+-- the loop at which a tensor is moved: that of its communicate, else the last distributed loop; None is the root
+abbrev pub communicate_loop : Schedule → ℕ → Option ℕ
+communicate_loop s t = option_or (named_loop s.moved t) (last_or None (distributed_loops s.distributed s.nest))

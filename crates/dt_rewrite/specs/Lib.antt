@@ -9,6 +9,7 @@ pub mod Distributes
 pub mod DivideCuts
 pub mod DivideLaw
 pub mod Divides
+pub mod Kept
 pub mod Orders
 pub mod Passing
 pub mod ReorderFacts

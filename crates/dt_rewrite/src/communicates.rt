@@ -96,9 +96,9 @@ fn terms_access(terms: &[Term], t: u32) -> bool
     }
 }
 
-/// Whether a leaf of the nest accesses the tensor.
+/// Whether a leaf of the nest accesses the tensor or workspace.
 #[tactic(auto, using(crate::proofs::Accesses::any))]
-fn accesses_tensor(nest: &Nest, t: u32) -> bool
+pub fn accesses_tensor(nest: &Nest, t: u32) -> bool
     ensures { result ≡ accesses_tensor (tree_of nest.now) t }
 {
     match nest {

@@ -1,27 +1,10 @@
 //! What commands make of the loops of a matrix product, worked out by hand.
 
-use crate::fixtures::{Answer, Command, How, Wanted, answered, product};
+use crate::fixtures::{Answer, Command, How, Wanted, after, answered, product};
 use dt_base::NoMemory;
-use dt_nest::Sched;
 use std::alloc::Global;
 use std::process::Abort;
 use std::test::Fail;
-
-/// The schedule after commands that are all legal.
-fn after(
-    rt: &impl Abort,
-    alloc: Global,
-    commands: &[Command<'_>],
-    first: Sched,
-) -> Result<Sched, NoMemory> {
-    let mut sched = first;
-    for command in commands {
-        let (next, answer) = answered(rt, alloc, *command, sched)?;
-        assert_eq!(rt; answer, Answer::Legal);
-        sched = next;
-    }
-    Ok(sched)
-}
 
 /// Where a number does not divide the extent, where it is 1, where it is the extent, and where it is more.
 #[test]

@@ -1,14 +1,14 @@
 //! For tests: the loops of a matrix product, commands by letters, and what they have to make of a schedule.
 
-ghost use Rattle.std.specs.Prelude.{◌≡◌, ◌<◌, [], ◌∷◌, IfOk, length};
+ghost use Rattle.std.specs.Prelude.{◌≡◌, ◌+◌, ◌<◌, [], ◌∷◌, IfOk, length};
 ghost use Rattle.std.specs.List.{AllByRecursion};
 ghost use Rattle.std.specs.Bool.{OnTrue};
 
 use crate::causes::name_of;
-use crate::{Collapse, Distribute, Divide, Reorder, Rotate, Split};
+use crate::{Collapse, Communicate, Distribute, Divide, Reorder, Rotate, Split};
 use dt_base::{Extents, Name, Names, NoMemory, Vars};
 use dt_model::{Access, Cause, Stmt, Terms};
-use dt_nest::{Derive, Derived, Nest, Rewrite, RewriteEnd, Sched, SchedParts};
+use dt_nest::{Derive, Derived, Moved, Nest, Rewrite, RewriteEnd, Sched, SchedParts};
 use std::alloc::Global;
 use std::process::Abort;
 
@@ -20,12 +20,16 @@ pub(crate) enum Answer {
     NameTaken(u8),
     WrongCount,
     UnknownLoop(u8),
+    UnknownTensor(u8),
     Distributed(u8),
     Communicated(u8),
+    Fixed(u8),
     NotOneChain,
     NotAdjacent,
     NotOuter(u8),
     NotOutermost(u8),
+    NotBelowTask(u8),
+    BelowPre(u8),
     WrongExtent(u8, u32, u32),
     TooManyLoops,
     TooLarge,
@@ -46,12 +50,16 @@ fn answer_of(cause: &Cause) -> Answer {
         Cause::NameTaken(name) => Answer::NameTaken(letter(name)),
         Cause::WrongCount => Answer::WrongCount,
         Cause::UnknownLoop(name) => Answer::UnknownLoop(letter(name)),
+        Cause::UnknownTensor(name) => Answer::UnknownTensor(letter(name)),
         Cause::Distributed(name) => Answer::Distributed(letter(name)),
         Cause::Communicated(name) => Answer::Communicated(letter(name)),
+        Cause::Fixed(name) => Answer::Fixed(letter(name)),
         Cause::NotOneChain => Answer::NotOneChain,
         Cause::NotAdjacent => Answer::NotAdjacent,
         Cause::NotOuter(name) => Answer::NotOuter(letter(name)),
         Cause::NotOutermost(name) => Answer::NotOutermost(letter(name)),
+        Cause::NotBelowTask(name) => Answer::NotBelowTask(letter(name)),
+        Cause::BelowPre(name) => Answer::BelowPre(letter(name)),
         Cause::WrongExtent(name, extent, dimension) => {
             Answer::WrongExtent(letter(name), *extent, *dimension)
         }
@@ -62,7 +70,7 @@ fn answer_of(cause: &Cause) -> Answer {
     }
 }
 
-fn letter(name: &Name) -> u8 {
+pub(crate) fn letter(name: &Name) -> u8 {
     match name.as_slice() {
         [letter] => *letter,
         _ => b'?',
@@ -84,14 +92,15 @@ fn loop_names(alloc: Global) -> Result<Names, NoMemory>
 }
 
 fn tensor_names(alloc: Global) -> Result<Names, NoMemory>
-    ensures { IfOk result (λ names. names ≡ (65 ∷ []) ∷ []) }
+    ensures { IfOk result (λ names. names ≡ (65 ∷ []) ∷ (66 ∷ []) ∷ []) }
 {
     let mut names = Names::new(alloc);
     names.push(Name::from_slice(b"A"))?;
+    names.push(Name::from_slice(b"B"))?;
     Ok(names)
 }
 
-/// The schedule of a matrix product: the loops i, j and k with these extents.
+/// The schedule of a sum into A, which accesses no B: the loops i, j and k with these extents.
 pub(crate) fn product(alloc: Global, [i, j, k]: [u32; 3]) -> Result<Sched, NoMemory> {
     let vars = Vars::from_slice(alloc, &[0, 1])?;
     let stmt = Stmt {
@@ -114,6 +123,7 @@ pub(crate) enum Command<'a> {
     Collapse(u8, u8, u8),
     Rotate(u8, &'a [u8], u8),
     Distribute(&'a [u8], &'a [u32]),
+    Communicate(u8, &'a [u8]),
 }
 
 /// The number of the loop or variable with this letter.
@@ -165,6 +175,22 @@ pub(crate) fn answered(
     }
 }
 
+/// The schedule after commands that are all legal.
+pub(crate) fn after(
+    rt: &impl Abort,
+    alloc: Global,
+    commands: &[Command<'_>],
+    first: Sched,
+) -> Result<Sched, NoMemory> {
+    let mut sched = first;
+    for command in commands {
+        let (next, answer) = answered(rt, alloc, *command, sched)?;
+        assert_eq!(rt; answer, Answer::Legal);
+        sched = next;
+    }
+    Ok(sched)
+}
+
 fn applied(
     rt: &impl Abort,
     alloc: Global,
@@ -180,6 +206,7 @@ fn applied(
         }
         Command::Rotate(var, by, fresh) => rotate(rt, alloc, sched, var, by, fresh),
         Command::Distribute(vars, grid) => distribute(rt, alloc, sched, vars, grid),
+        Command::Communicate(var, tensors) => communicate(rt, alloc, sched, var, tensors),
     }
 }
 
@@ -272,6 +299,39 @@ fn distribute(
     Ok(Distribute { vars, grid }.apply(alloc, sched))
 }
 
+/// The number of the tensor with this letter.
+pub(crate) fn tensor(rt: &impl Abort, sched: &Sched, wanted: u8) -> u32
+    ensures { result < length sched.now.tensors }
+{
+    let names = sched.parts().tensors.as_slice();
+    let place = names.iter().position(|n| letter(n) == wanted);
+    let at = place.expect(rt, "a tensor has the letter");
+    assert!(rt; at <= u32::MAX as usize);
+    at as u32
+}
+
+fn tensors(rt: &impl Abort, alloc: Global, sched: &Sched, letters: &[u8]) -> Result<Vars, NoMemory>
+    ensures { IfOk result (λ ts. AllByRecursion (λ t. t < length sched.now.tensors + length sched.now.works) ts) }
+{
+    let mut found = Vars::new(alloc);
+    for letter in letters {
+        found.push(tensor(rt, sched, *letter))?;
+    }
+    Ok(found)
+}
+
+fn communicate(
+    rt: &impl Abort,
+    alloc: Global,
+    sched: Sched,
+    var: u8,
+    letters: &[u8],
+) -> Result<Result<Sched, RewriteEnd>, NoMemory> {
+    let var = number(rt, &sched, var);
+    let tensors = tensors(rt, alloc, &sched, letters)?;
+    Ok(Communicate { var, tensors }.apply(alloc, sched))
+}
+
 /// How a loop's value follows, with a letter for each loop.
 #[derive(Clone, Copy)]
 pub(crate) enum How<'a> {
@@ -359,4 +419,23 @@ fn follows(parts: &SchedParts, how: &Derive, wanted: &How<'_>) -> bool {
         }
         _ => false,
     }
+}
+
+/// Whether these tensors are moved at these loops, with a letter for each.
+pub(crate) fn are_moved(parts: &SchedParts, wanted: &[(u8, u8)]) -> bool {
+    let moved = parts.moved.as_slice();
+    moved.len() == wanted.len()
+        && moved
+            .iter()
+            .zip(wanted)
+            .all(|(m, (t, v))| is_move(parts, m, *t, *v))
+}
+
+fn is_move(parts: &SchedParts, moved: &Moved, tensor: u8, at: u8) -> bool {
+    let names = parts.tensors.as_slice();
+    let named = match names.get(moved.tensor as usize) {
+        Some(name) => letter(name) == tensor,
+        None => false,
+    };
+    named && is_called(parts, moved.at, at)
 }

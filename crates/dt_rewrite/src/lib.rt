@@ -3,6 +3,8 @@
 
 mod causes;
 mod collapses;
+#[cfg(test)]
+mod communicate_tests;
 mod communicates;
 mod distributes;
 mod divides;
@@ -10,6 +12,7 @@ mod divides;
 mod effect_tests;
 #[cfg(test)]
 mod fixtures;
+mod moved_at;
 mod reorders;
 mod rotates;
 mod splits;
@@ -19,9 +22,10 @@ mod tests;
 mod two_loops;
 
 pub use collapses::Collapse;
-pub use communicates::Communicate;
+pub use communicates::{Communicate, accesses_tensor};
 pub use distributes::Distribute;
 pub use divides::Divide;
+pub use moved_at::communicate_loop;
 pub use reorders::Reorder;
 pub use rotates::Rotate;
 pub use splits::Split;
