@@ -8,6 +8,7 @@ use Rattle.dt_model.specs.declared.cause.Cause.TheVariants as cause
 use Rattle.dt_model.specs.Steps.{◌>>=◌, need, found}
 use Rattle.dt_nest.specs.Tree.{has_loop}
 use Rattle.dt_nest.specs.Schedule.{Schedule}
+use Rattle.dt_rewrite.specs.Communicates.{accesses_tensor}
 use Rattle.dt_schedule.specs.declared.two_loops.TwoLoops.{TwoLoops}
 use Rattle.dt_schedule.specs.declared.commands.Command.{Command}
 use Rattle.dt_schedule.specs.declared.commands.Command.TheVariants as command
@@ -30,6 +31,17 @@ each f (x ∷ xs) = do
 -- the numbers of the loops with these names
 unfoldable pub loops_of : Schedule → List (List ℕ) → Result (List ℕ) Cause
 loops_of s names = each (loop_of s) names
+
+-- the number of the tensor with this name, where the statement accesses it
+unfoldable pub tensor_of : Schedule → List ℕ → Result ℕ Cause
+tensor_of s name = do
+  t ← found (position (λ n. bytes_eq n name) s.tensors) (cause.UnknownTensor name)
+  _ ← need (accesses_tensor s.nest t) (cause.UnknownTensor name)
+  Ok t
+
+-- the numbers of the tensors with these names
+unfoldable pub tensors_of : Schedule → List (List ℕ) → Result (List ℕ) Cause
+tensors_of s names = each (tensor_of s) names
 
 -- a word that is a name
 unfoldable pub name_in : List ℕ → Result (List ℕ) Cause
@@ -114,6 +126,28 @@ distribute_of s grid words = do
   vars ← loops_of s names
   Ok (command.Distribute (record { vars = vars; grid = grid }))
 
+-- the first of these names is a loop, at which the others, which are tensors, are moved
+unfoldable pub communicate_names : Schedule → List (List ℕ) → Result Command Cause
+communicate_names s [] = Err cause.Syntax
+communicate_names s (v ∷ names) = do
+  _ ← need (nat_le 1 (length names)) cause.Syntax
+  var ← loop_of s v
+  tensors ← tensors_of s names
+  Ok (command.Communicate (record { var = var; tensors = tensors }))
+
+-- `communicate v` with one or more tensors
+unfoldable pub communicate_of : Schedule → List (List ℕ) → Result Command Cause
+communicate_of s words = do
+  names ← names_of words
+  communicate_names s names
+
+-- a command that lays the nest out on the machine, by its word and those behind it
+unfoldable pub layout_of : Schedule → List ℕ → List ℕ → List (List ℕ) → Result Command Cause
+layout_of s grid word words =
+    if bytes_eq word (codes "distribute") then distribute_of s grid words
+    else if bytes_eq word (codes "communicate") then communicate_of s words
+    else Err cause.UnknownWord
+
 -- the command of a line, by the machine's dimensions and the line's words
 unfoldable pub command_of : Schedule → List ℕ → List (List ℕ) → Result Command Cause
 command_of s grid [] = Err cause.UnknownWord
@@ -123,5 +157,4 @@ command_of s grid (word ∷ words) =
     else if bytes_eq word (codes "reorder") then reorder_of s words
     else if bytes_eq word (codes "collapse") then collapse_of s words
     else if bytes_eq word (codes "rotate") then rotate_of s words
-    else if bytes_eq word (codes "distribute") then distribute_of s grid words
-    else Err cause.UnknownWord
+    else layout_of s grid word words

@@ -1,7 +1,7 @@
 //! Commands: one type for all of them.
 
 use dt_nest::{Rewrite, RewriteEnd, Sched};
-use dt_rewrite::{Collapse, Distribute, Divide, Reorder, Rotate, Split};
+use dt_rewrite::{Collapse, Communicate, Distribute, Divide, Reorder, Rotate, Split};
 use std::alloc::Global;
 
 /// A command that changes a schedule.
@@ -13,6 +13,7 @@ pub enum Command {
     Collapse(Collapse),
     Rotate(Rotate),
     Distribute(Distribute),
+    Communicate(Communicate),
 }
 
 impl Rewrite for Command {
@@ -35,6 +36,7 @@ impl Rewrite for Command {
             Command::Collapse(command) => command.apply(alloc, sched),
             Command::Rotate(command) => command.apply(alloc, sched),
             Command::Distribute(command) => command.apply(alloc, sched),
+            Command::Communicate(command) => command.apply(alloc, sched),
         }
     }
 }

@@ -5,6 +5,7 @@ mod commands;
 mod loop_names;
 mod reading;
 mod running;
+mod tensor_names;
 #[cfg(test)]
 mod tests;
 mod two_loops;

@@ -16,7 +16,7 @@ use dt_text::{Token, is_name, word};
 use std::alloc::Global;
 
 /// Where a name stands among names.
-fn place(names: &[Name], name: &[u8]) -> Option<usize>
+pub fn place(names: &[Name], name: &[u8]) -> Option<usize>
     ensures value { result ≡ position (λ n. bytes_eq n name.now) names.now }
     ensures within { IfSome result (λ k. k < length names.now) }
 {

@@ -5,16 +5,17 @@ ghost use Rattle.std.specs.Bool.{OnTrue};
 ghost use Rattle.dt_text.specs.Names.{is_name};
 ghost use Rattle.dt_text.specs.Spans.{IsToken, token_in};
 ghost use Rattle.dt_model.specs.Steps.{Gives};
-ghost use Rattle.dt_schedule.specs.CommandForms.{collapse_of, command_of, distribute_of, divide_of, reorder_of, rotate_names, rotate_of, split_of};
+ghost use Rattle.dt_schedule.specs.CommandForms.{collapse_of, command_of, communicate_names, communicate_of, distribute_of, divide_of, layout_of, reorder_of, rotate_names, rotate_of, split_of};
 ghost use Rattle.dt_schedule.specs.Commands.{NamesLoops};
 
 use crate::commands::Command;
 use crate::loop_names::{loop_named, loops_named, read_names};
+use crate::tensor_names::tensors_named;
 use crate::two_loops::read_two_loops;
 use dt_base::{Extents, Name};
 use dt_model::{Cause, LineEnd};
 use dt_nest::Sched;
-use dt_rewrite::{Collapse, Distribute, Divide, Reorder, Rotate, Split};
+use dt_rewrite::{Collapse, Communicate, Distribute, Divide, Reorder, Rotate, Split};
 use dt_text::{Token, is_name, word};
 use std::alloc::Global;
 
@@ -166,6 +167,64 @@ fn read_distribute(
     Ok(Command::Distribute(Distribute { vars, grid }))
 }
 
+/// The first of these names is a loop, at which the others, which are tensors, are moved.
+#[tactic(auto, unfolding(crate::specs::CommandForms::communicate_names))]
+fn communicate_names(alloc: Global, sched: &Sched, names: &[Name]) -> Result<Command, LineEnd>
+    ensures read { Gives (λ c. c) result (communicate_names sched.now names.now) }
+    ensures known { IfOk result (λ c. NamesLoops c sched.now) }
+{
+    match names {
+        [] => Err(LineEnd::Refused(Cause::Syntax)),
+        [v, behind @ ..] => {
+            if behind.is_empty() {
+                return Err(LineEnd::Refused(Cause::Syntax));
+            }
+            let var = loop_named(sched, v.as_slice())?;
+            let tensors = tensors_named(alloc, sched, behind)?;
+            Ok(Command::Communicate(Communicate { var, tensors }))
+        }
+    }
+}
+
+/// `communicate v` with one or more tensors
+#[tactic(auto, unfolding(crate::specs::CommandForms::communicate_of))]
+fn read_communicate(
+    alloc: Global,
+    text: &[u8],
+    tokens: &[Token],
+    sched: &Sched,
+) -> Result<Command, LineEnd>
+    requires { All (IsToken (length text.now)) tokens.now }
+    ensures read { Gives (λ c. c) result (communicate_of sched.now (map (token_in text.now) tokens.now)) }
+    ensures known { IfOk result (λ c. NamesLoops c sched.now) }
+{
+    let names = read_names(alloc, text, tokens)?;
+    communicate_names(alloc, sched, names.as_slice())
+}
+
+/// A command that lays the nest out on the machine, by its word and those behind it.
+#[tactic(auto, unfolding(crate::specs::CommandForms::layout_of))]
+fn read_layout(
+    alloc: Global,
+    first: &[u8],
+    text: &[u8],
+    behind: &[Token],
+    sched: &Sched,
+    grid: &[u32],
+) -> Result<Command, LineEnd>
+    requires { All (IsToken (length text.now)) behind.now }
+    ensures read { Gives (λ c. c) result (layout_of sched.now grid.now first.now (map (token_in text.now) behind.now)) }
+    ensures known { IfOk result (λ c. NamesLoops c sched.now) }
+{
+    if first == b"distribute".as_slice() {
+        read_distribute(alloc, text, behind, sched, grid)
+    } else if first == b"communicate".as_slice() {
+        read_communicate(alloc, text, behind, sched)
+    } else {
+        Err(LineEnd::Refused(Cause::UnknownWord))
+    }
+}
+
 /// The command of a line, by its words.
 #[tactic(auto, unfolding(crate::specs::CommandForms::command_of))]
 pub fn read_command(
@@ -193,10 +252,8 @@ pub fn read_command(
                 read_collapse(text, behind, sched)
             } else if first == b"rotate".as_slice() {
                 read_rotate(alloc, text, behind, sched)
-            } else if first == b"distribute".as_slice() {
-                read_distribute(alloc, text, behind, sched, grid)
             } else {
-                Err(LineEnd::Refused(Cause::UnknownWord))
+                read_layout(alloc, first, text, behind, sched, grid)
             }
         }
     }

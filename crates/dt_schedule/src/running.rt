@@ -4,6 +4,7 @@ ghost use Rattle.std.specs.Prelude.{◌≡◌, ◌-◌, ◌^◌, ◌<◌, IfOk, 
 ghost use Rattle.dt_text.specs.Tokens.{tokens_of};
 ghost use Rattle.dt_nest.specs.Commands.{KeepsSum};
 ghost use Rattle.dt_nest.specs.FitsStored.{FitsStored};
+ghost use Rattle.dt_rewrite.specs.Kept.{KeepsAccesses};
 ghost use Rattle.dt_schedule.specs.Commands.{AnswersLine, command_line, NamesLoops};
 
 use crate::commands::Command;
@@ -54,6 +55,7 @@ pub fn run_command<L: Locator>(
     ensures answers { AnswersLine sched (command_line sched grid.now (tokens_of text.now)) result }
     ensures keeps { IfOk result (λ s. KeepsSum sched s) }
     ensures fits { IfOk result (λ s. FitsStored (L.tensors loc.now) s) }
+    ensures stays { IfOk result (λ s. KeepsAccesses sched s) }
 {
     let _lawful = sched.parts();
     commanded(alloc, sched, text, grid)

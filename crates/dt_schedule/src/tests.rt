@@ -1,6 +1,6 @@
 //! Command lines on nests of three loops, by hand.
 
-ghost use Rattle.std.specs.Prelude.{◌≡◌, ◌≤◌, [], ◌∷◌, IfOk, length};
+ghost use Rattle.std.specs.Prelude.{◌≡◌, [], ◌∷◌, IfOk};
 
 use crate::running::commanded;
 use dt_base::{Extents, Name, Names, NoMemory, Vars};
@@ -20,7 +20,9 @@ enum Answer {
     WrongCount,
     TooManyLoops,
     UnknownLoop([u8; 2]),
+    UnknownTensor([u8; 2]),
     Distributed([u8; 2]),
+    Communicated([u8; 2]),
     NotOneChain,
     NotAdjacent,
     TooLarge,
@@ -40,7 +42,9 @@ fn told(cause: &Cause) -> Answer {
         Cause::WrongCount => Answer::WrongCount,
         Cause::TooManyLoops => Answer::TooManyLoops,
         Cause::UnknownLoop(name) => Answer::UnknownLoop(letters(name)),
+        Cause::UnknownTensor(name) => Answer::UnknownTensor(letters(name)),
         Cause::Distributed(name) => Answer::Distributed(letters(name)),
+        Cause::Communicated(name) => Answer::Communicated(letters(name)),
         Cause::NotOneChain => Answer::NotOneChain,
         Cause::NotAdjacent => Answer::NotAdjacent,
         Cause::TooLarge => Answer::TooLarge,
@@ -62,12 +66,12 @@ fn letters(name: &Name) -> [u8; 2] {
     }
 }
 
-fn one_name(alloc: Global, name: &[u8]) -> Result<Names, NoMemory>
-    requires { length name.now ≤ 64 }
-    ensures { IfOk result (λ names. names ≡ name.now ∷ []) }
+fn two_names(alloc: Global) -> Result<Names, NoMemory>
+    ensures { IfOk result (λ names. names ≡ (65 ∷ []) ∷ (66 ∷ []) ∷ []) }
 {
     let mut names = Names::new(alloc);
-    names.push(Name::from_slice(name))?;
+    names.push(Name::from_slice(b"A"))?;
+    names.push(Name::from_slice(b"B"))?;
     Ok(names)
 }
 
@@ -81,7 +85,7 @@ fn three_names(alloc: Global) -> Result<Names, NoMemory>
     Ok(names)
 }
 
-/// The schedule of a statement A(i,j) that sums over k, with these extents and no term.
+/// The schedule of a statement A(i,j) that sums over k, with these extents, no term, and B, which it doesn't access.
 fn start(alloc: Global, i: u32, j: u32, k: u32) -> Result<Sched, NoMemory> {
     let vars = Vars::from_slice(alloc, &[0, 1])?;
     let stmt = Stmt {
@@ -91,7 +95,7 @@ fn start(alloc: Global, i: u32, j: u32, k: u32) -> Result<Sched, NoMemory> {
         extents: Extents::from_slice(alloc, &[i, j, k])?,
     };
     let variables = three_names(alloc)?;
-    let tensors = one_name(alloc, b"A")?;
+    let tensors = two_names(alloc)?;
     Sched::of_stmt(alloc, &stmt, &variables, &tensors)
 }
 
@@ -269,9 +273,32 @@ fn a_rotate_or_distribute_has_its_first_cause(rt: HostRuntime) -> Result<(), Fai
 }
 
 #[test]
+fn a_communicate_has_its_first_cause(rt: HostRuntime) -> Result<(), Fail> {
+    let rows: [(&[u8], Answer); 13] = [
+        (b"communicate", Answer::Syntax),
+        (b"communicate z", Answer::Syntax),
+        (b"communicate z 2", Answer::Syntax),
+        (b"communicate 2 Z", Answer::Syntax),
+        (b"communicate z Z b-", Answer::Syntax),
+        (b"communicate z Z", Answer::UnknownLoop(*b"z ")),
+        (b"communicate i Z", Answer::UnknownTensor(*b"Z ")),
+        (b"communicate i i", Answer::UnknownTensor(*b"i ")),
+        (b"communicate i B", Answer::UnknownTensor(*b"B ")),
+        (b"communicate i B Z", Answer::UnknownTensor(*b"B ")),
+        (b"communicate i A A B", Answer::UnknownTensor(*b"B ")),
+        (b"communicate i A A", Answer::Communicated(*b"A ")),
+        (b" communicate  k\tA", Answer::Done),
+    ];
+    for (line, wanted) in rows {
+        assert_eq!(rt; one_line(rt.alloc(), line)?, wanted);
+    }
+    Ok(())
+}
+
+#[test]
 fn lines_see_what_earlier_lines_made(rt: HostRuntime) -> Result<(), Fail> {
     let alloc = rt.alloc();
-    let rows: [(&[&[u8]], Answer); 12] = [
+    let rows: [(&[&[u8]], Answer); 15] = [
         (
             &[b"split i io ii 2", b"split j jo ji 2", b"split i x y 2"],
             Answer::UnknownLoop(*b"i "),
@@ -309,6 +336,18 @@ fn lines_see_what_earlier_lines_made(rt: HostRuntime) -> Result<(), Fail> {
         (
             &[b"reorder j i", b"distribute j", b"rotate j i r"],
             Answer::NotOuter(*b"i "),
+        ),
+        (
+            &[b"distribute i", b"communicate i A", b"communicate j A"],
+            Answer::Communicated(*b"A "),
+        ),
+        (
+            &[b"communicate i A", b"split i a b 2"],
+            Answer::Communicated(*b"i "),
+        ),
+        (
+            &[b"split i a b 2", b"communicate i A"],
+            Answer::UnknownLoop(*b"i "),
         ),
         (
             &[

@@ -5,15 +5,15 @@ use Rattle.dt_model.specs.declared.stmt.Term.{Term}
 use Rattle.dt_nest.specs.Chain.{IsSchedulable}
 use Rattle.dt_schedule.proofs.tests.start.Goals as goal
 
-one_distinct : (name : List ℕ) → IsDistinct bytes_eq (name ∷ [])
+two_distinct : IsDistinct bytes_eq ((65 ∷ []) ∷ (66 ∷ []) ∷ [])
 unfolding IsDistinct
-one_distinct name = (tt, tt)
+two_distinct = ((refl, tt), (tt, tt))
 
 three_distinct : IsDistinct bytes_eq ((105 ∷ []) ∷ (106 ∷ []) ∷ (107 ∷ []) ∷ [])
 unfolding IsDistinct
 three_distinct = ((refl, (refl, tt)), ((refl, tt), (tt, tt)))
 
-schedulable : (i j k : ℕ) (vars extents : List ℕ) (terms : List Term) (names tensors : List (List ℕ)) → vars ≡ 0 ∷ 1 ∷ [] → extents ≡ i ∷ j ∷ k ∷ [] → terms ≡ [] → names ≡ (105 ∷ []) ∷ (106 ∷ []) ∷ (107 ∷ []) ∷ [] → tensors ≡ (65 ∷ []) ∷ []
+schedulable : (i j k : ℕ) (vars extents : List ℕ) (terms : List Term) (names tensors : List (List ℕ)) → vars ≡ 0 ∷ 1 ∷ [] → extents ≡ i ∷ j ∷ k ∷ [] → terms ≡ [] → names ≡ (105 ∷ []) ∷ (106 ∷ []) ∷ (107 ∷ []) ∷ [] → tensors ≡ (65 ∷ []) ∷ (66 ∷ []) ∷ []
     → IsSchedulable (record { lhs = record { tensor = 0; vars = vars }; adds = true; terms = terms; extents = extents }) names tensors
 schedulable i j k vars extents terms names tensors a b c d e =
     subst (λ (v : List ℕ). IsSchedulable (record { lhs = record { tensor = 0; vars = v }; adds = true; terms = terms; extents = extents }) names tensors) (sym a)
@@ -27,7 +27,7 @@ schedulable i j k vars extents terms names tensors a b c d e =
       accesses = ((lit< tt, lit≤ tt, (lit< tt, (lit< tt, tt))), tt);
       named = refl;
       differ = three_distinct;
-      tensors_differ = one_distinct (65 ∷ []);
+      tensors_differ = two_distinct;
       few_tensors = lit< tt;
     })))))
 

@@ -1,0 +1,15 @@
+use Rattle.std.proofs.Common.{◌+◌, drop, arith}
+use Rattle.std.proofs.lemmas.List.{drop_all}
+use Rattle.dt_schedule.specs.CommandForms.{tensor_of, tensors_of}
+use Rattle.dt_schedule.proofs.EachFacts.{drop-next, each_end, each_fails}
+use Rattle.dt_schedule.proofs.tensor_names.tensors_named.Goals as goal
+
+pub returns-in-Err-clause-read : goal.returns-in-Err-clause-read
+unfolding tensors_of
+returns-in-Err-clause-read c =
+    each_fails (tensor_of c.args.sched.now) (drop c.loop-name.name-index c.args.names.now) (drop (c.loop-name.name-index + 1) c.args.names.now) c.name-item.result c.in-Err.end c.loop-name.tensors _
+    (drop-next c.args.names.now c.loop-name.name-index c.name-item.result c.loop-name-test.true c.name-item.is) (rw (← c.as_slice.ensures.bytes) c.in-Err.ensures.read) c.loop-name.invariant.0
+
+pub returns-clause-read : goal.returns-clause-read
+unfolding tensors_of
+returns-clause-read c = each_end (tensor_of c.args.sched.now) (drop c.loop-name.name-index c.args.names.now) c.loop-name.tensors _ (drop_all c.loop-name.name-index c.args.names.now (omega arith)) c.loop-name.invariant.0
