@@ -4,3 +4,4 @@ pub mod Places
 pub mod Lanes
 pub mod PositionSets
 pub mod StmtSchedules
+pub mod VisitsAdd

@@ -1,12 +1,12 @@
--- The schedule of a statement over tensors: it fits them, and has paths.
-use Rattle.std.proofs.Common.{◌≡◌, ℕ, zero, suc, ◌+◌, ◌<◌, ◌≤◌, Bool, true, false, ◌&&◌, List, [], ◌∷◌, ◌++◌, length, map, Some, All, refl, ap, sym, ◌∙◌, subst, arith}
-use Rattle.std.specs.Prelude.{nat_le, nat_lt, slice_get, slice_index}
-use Rattle.std.specs.List.{AllByRecursion, IsDistinct, flat_map, list_all, range_with_len, zip}
+-- The schedule of a statement over tensors: it fits them.
+use Rattle.std.proofs.Common.{◌≡◌, ℕ, zero, suc, ◌+◌, ◌<◌, Bool, true, false, ◌&&◌, List, [], ◌∷◌, ◌++◌, length, map, Some, All, refl, ap, sym, ◌∙◌, subst, arith}
+use Rattle.std.specs.Prelude.{slice_get, slice_index}
+use Rattle.std.specs.List.{AllByRecursion, IsDistinct, flat_map, range_with_len}
 use Rattle.std.specs.Str.{bytes_eq}
-use Rattle.std.proofs.lemmas.Bool.{leb-true, ltb-true, ne_eqb}
+use Rattle.std.proofs.lemmas.Bool.{ne_eqb}
 use Rattle.std.proofs.lemmas.List.{length-map}
 use Rattle.std.proofs.lemmas.List.FromFn.{map-range_with_len_more}
-use Rattle.dt_model.specs.Positions.{StoredTensor, IsStored, is_front, tensor_at}
+use Rattle.dt_model.specs.Positions.{StoredTensor, IsStored, tensor_at}
 use Rattle.dt_model.specs.Stmts.{IsFactor, IsTerm, IsStmt, shapes_of}
 use Rattle.dt_model.specs.WholeTensor.{WholeTensor}
 use Rattle.dt_model.specs.declared.stmt.Access.{Access}
@@ -14,13 +14,11 @@ use Rattle.dt_model.specs.declared.stmt.Factor.{Factor}
 use Rattle.dt_model.specs.declared.stmt.Factor.TheVariants.{Read, Literal}
 use Rattle.dt_model.specs.declared.stmt.Stmt.{Stmt}
 use Rattle.dt_model.specs.declared.stmt.Term.{Term}
-use Rattle.dt_model.proofs.ShapeFacts.{both}
 use Rattle.dt_nest.specs.declared.loops.Kernel.TheVariants.{Plain}
 use Rattle.dt_nest.specs.Chain.{chain, stmt_schedule}
 use Rattle.dt_nest.specs.Each.{all_flat, all_made, all_map}
 use Rattle.dt_nest.specs.FitsStored.{FitsStored}
-use Rattle.dt_nest.specs.Tree.{Tree, Leaf, accesses_of, factor_accesses, is_kernel_leaf, read_accesses}
-use Rattle.dt_nest.specs.Visits.{IsPath, IsPathIn}
+use Rattle.dt_nest.specs.Tree.{Tree, Leaf, accesses_of, factor_accesses, read_accesses}
 use Rattle.dt_nest.specs.World.{FitsWalks}
 use Rattle.dt_nest.specs.Schedule.{Schedule}
 use Rattle.dt_tensor.specs.Packed.{Packed, IsPacked, stored_of}
@@ -81,28 +79,6 @@ stmt_fits stored s vars names h count levels = record {
   positions = tt;
 }
 
--- Paths ------------------------------------------------------------------------------------------------------------------
-
--- loops around a plain leaf are not substituted
-plain_chain : (v : ℕ) (ns : List ℕ) (lhs : Access) (terms : List Term) → is_kernel_leaf (chain v ns (Leaf lhs terms [] Plain)) ≡ false
-plain_chain v [] lhs terms = refl
-plain_chain v (n ∷ ns) lhs terms = refl
-
--- values below the extents of loops are a path through them
-path_in_chain : (v : ℕ) (ns path : List ℕ) (lhs : Access) (terms : List Term) → length path ≤ length ns → list_all (λ p. nat_lt p.0 p.1) (zip path ns) ≡ true → IsPathIn (chain v ns (Leaf lhs terms [] Plain)) path
-path_in_chain v ns [] lhs terms l h = tt
-path_in_chain v [] (x ∷ path) lhs terms l h = absurd (omega arith)
-path_in_chain v (n ∷ ns) (x ∷ path) lhs terms l h =
-    let parts = both (nat_lt x n) (list_all (λ p. nat_lt p.0 p.1) (zip path ns)) h in
-    (ltb-true x n parts.0, plain_chain (suc v) ns lhs terms, path_in_chain (suc v) ns path lhs terms (omega arith) parts.1)
-
--- values of the first variables, each below its extent, are a path of a statement's schedule
-pub stmt_path : (s : Stmt) (vars names : List (List ℕ)) (path : List ℕ) → is_front s.extents path ≡ true → IsPath (stmt_schedule s vars names) path
-unfolding stmt_schedule
-stmt_path s vars names path h =
-    let parts = both (nat_le (length path) (length s.extents)) (list_all (λ p. nat_lt p.0 p.1) (zip path s.extents)) h in
-    path_in_chain 0 s.extents path s.lhs s.terms (leb-true (length path) (length s.extents) parts.0) parts.1
-
 -- Names ------------------------------------------------------------------------------------------------------------------
 
 -- a letter differs from later ones
@@ -141,8 +117,3 @@ packed_fit ps tensors wholes given counted s vars names sched e m packed eg h ec
     let count : length (map stored_of tensors) ≡ length names = length-map tensors stored_of ∙ sym (n ∙ ap length ec ∙ lengths) in
     let levels : AllByRecursion IsStored (map stored_of tensors) = all_made IsPacked IsStored stored_of (λ p k. k.stored) tensors (subst (λ (l : List Packed). AllByRecursion IsPacked l) e packed) in
     subst (λ (x : Schedule). FitsStored (map stored_of tensors) x) (sym q) (stmt_fits (map stored_of tensors) s vars names stmt count levels)
-
--- and so does a path
-pub path_fits : (s : Stmt) (vars names : List (List ℕ)) (path extents : List ℕ) (sched : Schedule) → extents ≡ s.extents → is_front extents path ≡ true → sched ≡ stmt_schedule s vars names → IsPath sched path
-path_fits s vars names path extents sched e h q =
-    subst (λ (x : Schedule). IsPath x path) (sym q) (stmt_path s vars names path (ap (λ (l : List ℕ). is_front l path) (sym e) ∙ h))

@@ -3,10 +3,12 @@
 
 mod accesses;
 mod found;
+mod paths;
 #[cfg(test)]
 mod statements;
 #[cfg(test)]
 mod tests;
 mod words;
 
+pub use paths::is_path;
 pub use words::needed;

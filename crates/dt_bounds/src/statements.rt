@@ -3,11 +3,11 @@
 ghost use Rattle.std.specs.Prelude.{◌≡◌, ℕ, ◌+◌, ◌≤◌, List, length, map, IfOk};
 ghost use Rattle.std.specs.List.{AllByRecursion, IsDistinct};
 ghost use Rattle.std.specs.Str.{bytes_eq};
-ghost use Rattle.dt_model.specs.Positions.{is_front};
 ghost use Rattle.dt_model.specs.Stmts.{IsStmt, shapes_of};
 ghost use Rattle.dt_nest.specs.Chain.{stmt_schedule};
 ghost use Rattle.dt_tensor.specs.Packed.{IsPacked};
 
+use crate::paths::is_path;
 use crate::words::needed;
 use dt_base::{Name, Names, NoMemory};
 use dt_model::{Stmt, Whole, is_stmt};
@@ -42,13 +42,6 @@ fn letters(alloc: Global, first: u8, count: usize) -> Result<Names, NoMemory>
     Ok(names)
 }
 
-/// Whether the path has at most as many values as there are extents, each below its own.
-fn is_path(extents: &[u32], path: &[u32]) -> bool
-    ensures { result ≡ is_front extents.now path.now }
-{
-    path.len() <= extents.len() && path.iter().zip(extents).all(|(x, n)| *x < *n)
-}
-
 /// The schedule of a statement over these tensors, with letters for names.
 fn schedule(alloc: Global, stmt: &Stmt, wholes: &[Whole]) -> Result<Sched, NoMemory>
     requires stmt { IsStmt (shapes_of wholes.now) stmt.now }
@@ -73,10 +66,13 @@ pub fn needed_in(
     if wholes.len() > 9 || tensor as usize >= tensors.len() {
         return Ok(None);
     }
-    if !is_stmt(stmt, wholes.as_slice()) || !is_path(stmt.extents.as_slice(), path) {
+    if !is_stmt(stmt, wholes.as_slice()) {
         return Ok(None);
     }
     let sched = schedule(alloc, stmt, wholes.as_slice())?;
+    if !is_path(&sched, path) {
+        return Ok(None);
+    }
     let runs = needed(alloc, &sched, tensors, tensor, path)?;
     Ok(Some(runs))
 }

@@ -165,6 +165,28 @@ const SCALAR_WORDS: [Row; 5] = [
 ];
 
 #[test]
+fn a_path_has_values_of_the_outermost_loops(rt: HostRuntime) -> Result<(), Fail> {
+    let alloc = rt.alloc();
+    let stmt = statement(alloc, &PRODUCT)?;
+    let tensors = zeros(alloc, PRODUCT.shapes)?;
+    let cases: [(&[u32], bool); 6] = [
+        (&[], true),
+        (&[3], true),
+        (&[3, 0, 3], true),
+        (&[4], false),
+        (&[0, 4], false),
+        (&[0, 0, 0, 0], false),
+    ];
+    for (path, is_path) in cases {
+        assert_eq!(rt;
+            needed_in(alloc, &stmt, &tensors, B, path)?.is_some(),
+            is_path
+        );
+    }
+    Ok(())
+}
+
+#[test]
 fn words_are_those_of_the_visits(rt: HostRuntime) -> Result<(), Fail> {
     assert!(rt; agree(rt.alloc(), &PRODUCT, &PRODUCT_WORDS)?);
     assert!(rt; agree(rt.alloc(), &TWICE, &TWICE_WORDS)?);
