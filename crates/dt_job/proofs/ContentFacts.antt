@@ -1,18 +1,17 @@
 -- Drafts stay lawful as lines are read.
-use Rattle.std.proofs.Common.{◌≡◌, ℕ, zero, suc, ◌+◌, ◌<◌, List, [], ◌∷◌, ◌++◌, length, map, get_or, slice_get, slice_index, Bool, true, false, not, cond, nat_lt, Option, Some, None, is_some, IfSome, IsSome, option_map, unwrap_or, refl, ap, sym, ◌∙◌, arith, length-append, append-nil, All, subst}
+use Rattle.std.proofs.Common.{◌≡◌, ℕ, zero, suc, ◌+◌, ◌<◌, ◌≤◌, List, [], ◌∷◌, ◌++◌, length, map, get_or, slice_get, Bool, true, false, not, cond, nat_lt, Option, Some, None, is_some, IfSome, IsSome, option_map, unwrap_or, refl, ap, sym, ◌∙◌, arith, length-append, append-nil, All, subst}
 use Rattle.std.specs.Prelude.{position}
 use Rattle.std.specs.Str.{bytes_eq}
-use Rattle.std.specs.List.{prefix_len, IsDistinct}
+use Rattle.std.specs.List.{prefix_len, AllByRecursion, IsDistinct}
 use Rattle.std.specs.Map.{lookup}
 use Rattle.std.specs.Cmp.Lexicographic.{nat_list_eq_equiv}
-use Rattle.std.proofs.lemmas.List.{append_assoc, map-append, length-map}
+use Rattle.std.proofs.lemmas.List.{get_or_append_left, map-append, length-map}
 use Rattle.std.proofs.lemmas.List.Elements.{All-cons, All-map, All-push}
 use Rattle.std.proofs.lemmas.Option.{slice_get-map}
-use Rattle.dt_model.specs.Stmts.{IsAccess, IsFactor, IsStmt}
-use Rattle.dt_model.specs.declared.stmt.Access.{Access}
-use Rattle.dt_model.specs.declared.stmt.Factor.{Factor}
-use Rattle.dt_model.specs.declared.stmt.Factor.TheVariants.{Read, Literal}
-use Rattle.dt_model.specs.declared.stmt.Stmt.{Stmt}
+use Rattle.std.proofs.Math.Seq.{get_or-append_seam}
+use Rattle.dt_model.specs.Positions.{StoredTensor, IsStored, tensor_at}
+use Rattle.dt_model.specs.Shape.{dims, IsShape}
+use Rattle.dt_model.specs.declared.shape.Shape.{Shape}
 use Rattle.dt_index.specs.Known.{Known, place_of, is_dense_at, shapes_of_known}
 use Rattle.indexmap.specs.Layout.{set_value_at}
 use Rattle.indexmap.proofs.MapLemmas.{some_index}
@@ -21,14 +20,19 @@ use Rattle.dt_job.specs.declared.outputs.Show.TheVariants.{Print}
 use Rattle.dt_place.specs.Machines.{MachineView}
 use Rattle.dt_place.specs.declared.placements.Placement.{Placement}
 use Rattle.dt_place.specs.declared.placements.Placement.TheVariants.{FirstNode}
-use Rattle.dt_job.specs.Contents.{Content, Contents, extents_of_all, known_of, names_of, placement_of, places_of, tensor_of, tensors_of, with_placement, with_values}
-use Rattle.dt_job.specs.Drafts.{DraftView, FitsMachine, IsDraft, IsPlaced}
+use Rattle.dt_job.specs.Contents.{Content, Contents, extents_of_all, known_of, names_of, placement_of, places_of, stored_of_all, tensor_of, tensors_of, with_placement, with_values}
+use Rattle.dt_job.specs.Drafts.{DraftView, FitsMachine, IsDraft, IsPlaced, IsScheduled, part_of, stated}
 use Rattle.dt_job.specs.Jobs.{FitsOn, IsJob, IsJobStmt, IsJobTensor, ShowsBelow}
-use Rattle.dt_job.specs.Phases.{knows_machine}
+use Rattle.dt_job.specs.PartsOf.{ArePartsOf}
+use Rattle.dt_job.specs.Phases.{is_past_declarations, knows_machine, open_stmt, takes_declaration, takes_machine}
 use Rattle.dt_job.specs.Read.{job_on}
 use Rattle.dt_job.specs.declared.phases.Phase.{Phase}
+use Rattle.dt_job.specs.declared.phases.Phase.TheVariants as phases
+use Rattle.dt_job.specs.declared.scheduled.Scheduled.{Scheduled}
 use Rattle.dt_job.specs.declared.job.Job.{Job}
-use Rattle.dt_tensor.specs.Packed.{Packed}
+use Rattle.dt_job.proofs.PhaseFacts.{declaration_phase, machine_phase}
+use Rattle.dt_tensor.specs.Packed.{Packed, dense_levels, stored_of}
+use Rattle.dt_tensor.proofs.DenseTensors.{IsStored-dense}
 
 -- every declared tensor is dense
 pub all_dense : (tensors : Contents) (k : ℕ) → true ≡ is_dense_at (known_of tensors) k
@@ -66,55 +70,50 @@ pub known_shapes : (tensors : Contents) → shapes_of_known (known_of tensors) �
 known_shapes [] = refl
 known_shapes (t ∷ ts) = ap (λ (xs : List (List ℕ)). t.1.extents ∷ xs) (known_shapes ts)
 
-get-more : (shapes more : List (List ℕ)) (k : ℕ) (ns : List ℕ) → slice_get shapes k ≡ Some ns → slice_get (shapes ++ more) k ≡ Some ns
-get-more [] more k ns h = cc
-get-more (x ∷ xs) more zero ns h = h
-get-more (x ∷ xs) more (suc k) ns h = get-more xs more k ns h
-
--- an access stays one when more tensors are declared
-more_access : (shapes more : List (List ℕ)) (extents : List ℕ) (a : Access) → IsAccess shapes extents a → IsAccess (shapes ++ more) extents a
-more_access shapes more extents a h = record { variables = h.variables; fits = get-more shapes more a.tensor (map (λ v. slice_index extents v) a.vars) h.fits }
-
-more_factor : (shapes more : List (List ℕ)) (extents : List ℕ) (f : Factor) → IsFactor shapes extents f → IsFactor (shapes ++ more) extents f
-more_factor shapes more extents (Read a) h = more_access shapes more extents a h
-more_factor shapes more extents (Literal n) h = tt
-
--- a statement stays one when more tensors are declared
-more_stmt : (shapes more : List (List ℕ)) (s : Stmt) → IsStmt shapes s → IsStmt (shapes ++ more) s
-more_stmt shapes more s h = record {
-  few = h.few;
-  left = h.left;
-  target = more_access shapes more s.extents s.lhs h.target;
-  terms = λ k d l. λ j f m. more_factor shapes more s.extents (get_or (get_or s.terms k d).factors j f) (h.terms k d l j f m);
-}
-
-more_job_stmt : (shapes more : List (List ℕ)) (s : Stmt) → IsJobStmt shapes s → IsJobStmt (shapes ++ more) s
-more_job_stmt shapes more s h = record { stands = more_stmt shapes more s h.stands; used = h.used; even = h.even; small = h.small; unread = h.unread }
-
 below_more : (n m : ℕ) (show : Show) → n < m + 1 → ShowsBelow n show → ShowsBelow m show
 below_more n m (Print k) l h = omega (arith, l, h)
 
+-- before any statement, other tensors may stand in the place of the declared ones
+changed_tensors : (d : DraftView) (tensors : Contents) → takes_declaration d.phase ≡ true → IsDraft d → All (IsPlaced d.machine) tensors → length d.tensors ≤ length tensors → length tensors ≤ 32
+    → IsDistinct bytes_eq (names_of tensors) → AllByRecursion IsStored (stored_of_all tensors) → IsDraft (record d { tensors = tensors })
+changed_tensors d tensors early h placed more few differ stored = record {
+  machine = h.machine;
+  places = placed;
+  few = few;
+  differ = differ;
+  stored = stored;
+  few_stmts = h.few_stmts;
+  stmts = (let P : List Scheduled → Type 0 = λ l. All (IsScheduled tensors) l in subst P (sym (h.begun (declaration_phase d.phase early))) (λ k s l. absurd (omega (arith, l))));
+  begun = h.begun;
+  shows = λ k s l. below_more (length d.tensors) (length tensors) (get_or d.shows k s) (omega (arith, more)) (h.shows k s l);
+}
+
+stored_more : (shapes : List (List ℕ)) (ns : List ℕ) → AllByRecursion IsStored (map dense_levels shapes) → IsStored (dense_levels ns) → AllByRecursion IsStored (map dense_levels (shapes ++ ns ∷ []))
+stored_more [] ns h s = (s, tt)
+stored_more (x ∷ xs) ns h s = (h.0, stored_more xs ns h.1 s)
+
 -- one more tensor, which no line has placed
-pub declared_draft : (d : DraftView) (name : List ℕ) (c : Content) (tensors : Contents) → length d.tensors < 32 → IsDraft d → c.placement ≡ None → tensors ≡ d.tensors ++ (name, c) ∷ [] → IsDraft (record d { tensors = tensors })
-declared_draft d name c tensors few h n e =
+pub declared_draft : (d : DraftView) (name : List ℕ) (c : Content) (shape : Shape) (tensors : Contents) → takes_declaration d.phase ≡ true → length d.tensors < 32 → IsDraft d
+    → c ≡ record { extents = dims shape; values = None; placement = None } → IsShape shape → tensors ≡ d.tensors ++ (name, c) ∷ [] → IsDistinct bytes_eq (names_of tensors) → IsDraft (record d { tensors = tensors })
+declared_draft d name c shape tensors early few h is lawful e differ =
     let count : length tensors ≡ length d.tensors + 1 = ap length e ∙ rw length-append (omega arith) in
-    let shapes : extents_of_all tensors ≡ extents_of_all d.tensors ++ c.extents ∷ [] =
-    ap (λ (ts : Contents). extents_of_all ts) e ∙ map-append (λ (t : List ℕ × Content). t.1.extents) d.tensors ((name, c) ∷ []) in
+    let shapes : extents_of_all tensors ≡ extents_of_all d.tensors ++ dims shape ∷ [] =
+    ap (λ (ts : Contents). extents_of_all ts) e ∙ map-append (λ (t : List ℕ × Content). t.1.extents) d.tensors ((name, c) ∷ []) ∙ ap (λ (x : Content). extents_of_all d.tensors ++ x.extents ∷ []) is in
     let P : Contents → Type 0 = λ ts. All (IsPlaced d.machine) ts in
     let O : Option Placement → Type 0 = λ o. IfSome o (FitsMachine d.machine) in
-    record {
-      machine = h.machine;
-      places = subst P (sym e) (All-push (IsPlaced d.machine) d.tensors (name, c) h.places (subst O (sym n) tt));
-      few = omega arith;
-      few_stmts = h.few_stmts;
-      stmts = λ k s l. rw shapes (more_job_stmt (extents_of_all d.tensors) (c.extents ∷ []) (get_or d.stmts k s) (h.stmts k s l));
-      shows = λ k s l. below_more (length d.tensors) (length tensors) (get_or d.shows k s) (omega (arith, count)) (h.shows k s l);
-    }
+    let S : List (List ℕ) → Type 0 = λ l. AllByRecursion IsStored (map dense_levels l) in
+    changed_tensors d tensors early h (subst P (sym e) (All-push (IsPlaced d.machine) d.tensors (name, c) h.places (subst O (sym (ap (λ (x : Content). x.placement) is)) tt)))
+    (omega (arith, count)) (omega (arith, count, few)) differ (subst S (sym shapes) (stored_more (extents_of_all d.tensors) (dims shape) h.stored (IsStored-dense shape lawful)))
 
 count_kept : (tensors : Contents) (k : ℕ) (c : Content) → length (set_value_at tensors k c) ≡ length tensors
 count_kept [] k c = refl
 count_kept (t ∷ ts) zero c = refl
 count_kept (t ∷ ts) (suc k) c = ap suc (count_kept ts k c)
+
+names_kept : (tensors : Contents) (k : ℕ) (c : Content) → names_of (set_value_at tensors k c) ≡ names_of tensors
+names_kept [] k c = refl
+names_kept (t ∷ ts) zero c = refl
+names_kept (t ∷ ts) (suc k) c = ap (λ (l : List (List ℕ)). t.0 ∷ l) (names_kept ts k c)
 
 -- the extents stay where a tensor gets numbers
 extents_kept : (tensors : Contents) (k : ℕ) (was now : Content) → option_map (λ t. t.1) (slice_get tensors k) ≡ Some was → now.extents ≡ was.extents → extents_of_all (set_value_at tensors k now) ≡ extents_of_all tensors
@@ -149,33 +148,43 @@ all_at P (t ∷ ts) zero was g h = subst P (same_there t.1 was g) (h zero t (ome
 all_at P (t ∷ ts) (suc k) was g h = all_at P ts k was g (all_behind (λ u. P u.1) t ts h)
 
 -- a tensor changes: its extents stay, and its placement fits the machine
-pub changed_draft : (d : DraftView) (k : ℕ) (was now : Content) → option_map (λ t. t.1) (slice_get d.tensors k) ≡ Some was → now.extents ≡ was.extents → IfSome now.placement (FitsMachine d.machine) → IsDraft d
+changed_draft : (d : DraftView) (k : ℕ) (was now : Content) → takes_declaration d.phase ≡ true → option_map (λ t. t.1) (slice_get d.tensors k) ≡ Some was → now.extents ≡ was.extents → IfSome now.placement (FitsMachine d.machine) → IsDraft d
     → IsDraft (record d { tensors = set_value_at d.tensors k now })
-changed_draft d k was now g e p h =
+changed_draft d k was now early g e p h =
     let count : length (set_value_at d.tensors k now) ≡ length d.tensors = count_kept d.tensors k now in
-    let shapes : extents_of_all (set_value_at d.tensors k now) ≡ extents_of_all d.tensors = extents_kept d.tensors k was now g e in
-    record {
-      machine = h.machine;
-      places = all_set (λ c. IfSome c.placement (FitsMachine d.machine)) d.tensors k now p h.places;
-      few = omega (arith, h.few, count);
-      few_stmts = h.few_stmts;
-      stmts = λ j s l. rw shapes (h.stmts j s l);
-      shows = λ j s l. below_more (length d.tensors) (length (set_value_at d.tensors k now)) (get_or d.shows j s) (omega (arith, count)) (h.shows j s l);
-    }
+    let N : List (List ℕ) → Type 0 = λ l. IsDistinct bytes_eq l in
+    let S : List (List ℕ) → Type 0 = λ l. AllByRecursion IsStored (map dense_levels l) in
+    changed_tensors d (set_value_at d.tensors k now) early h (all_set (λ c. IfSome c.placement (FitsMachine d.machine)) d.tensors k now p h.places) (omega (arith, count)) (omega (arith, h.few, count))
+    (subst N (sym (names_kept d.tensors k now)) h.differ) (subst S (sym (extents_kept d.tensors k was now g e)) h.stored)
 
 -- a tensor gets numbers
-pub given_draft : (d : DraftView) (k : ℕ) (was now : Content) → option_map (λ t. t.1) (slice_get d.tensors k) ≡ Some was → now.extents ≡ was.extents → now.placement ≡ was.placement → IsDraft d
+pub given_draft : (d : DraftView) (k : ℕ) (was now : Content) → takes_declaration d.phase ≡ true → option_map (λ t. t.1) (slice_get d.tensors k) ≡ Some was → now.extents ≡ was.extents → now.placement ≡ was.placement → IsDraft d
     → IsDraft (record d { tensors = set_value_at d.tensors k now })
-given_draft d k was now g e p h =
+given_draft d k was now early g e p h =
     let O : Option Placement → Type 0 = λ o. IfSome o (FitsMachine d.machine) in
-    changed_draft d k was now g e (subst O (sym p) (all_at (λ c. IfSome c.placement (FitsMachine d.machine)) d.tensors k was g h.places)) h
+    changed_draft d k was now early g e (subst O (sym p) (all_at (λ c. IfSome c.placement (FitsMachine d.machine)) d.tensors k was g h.places)) h
 
 -- a tensor is placed
-pub placed_draft : (d : DraftView) (k : ℕ) (was now : Content) (p : Placement) → option_map (λ t. t.1) (slice_get d.tensors k) ≡ Some was → now.extents ≡ was.extents → now.placement ≡ Some p → FitsMachine d.machine p → IsDraft d
+pub placed_draft : (d : DraftView) (k : ℕ) (was now : Content) (p : Placement) → takes_declaration d.phase ≡ true → option_map (λ t. t.1) (slice_get d.tensors k) ≡ Some was → now.extents ≡ was.extents → now.placement ≡ Some p → FitsMachine d.machine p → IsDraft d
     → IsDraft (record d { tensors = set_value_at d.tensors k now })
-placed_draft d k was now p g e n f h =
+placed_draft d k was now p early g e n f h =
     let O : Option Placement → Type 0 = λ o. IfSome o (FitsMachine d.machine) in
-    changed_draft d k was now g e (subst O (sym n) f) h
+    changed_draft d k was now early g e (subst O (sym n) f) h
+
+-- the names of the tensors, with one more
+pub named_more : (was : Contents) (name : List ℕ) (c : Content) (tensors : Contents) (front names : List (List ℕ)) → front ≡ names_of was → names ≡ front ++ name ∷ [] → tensors ≡ was ++ (name, c) ∷ [] → names ≡ names_of tensors
+named_more was name c tensors front names f n e =
+    n ∙ ap (λ (l : List (List ℕ)). l ++ name ∷ []) f ∙ sym (map-append (λ (t : List ℕ × Content). t.0) was ((name, c) ∷ [])) ∙ ap (λ (ts : Contents). names_of ts) (sym e)
+
+-- the names stay where a tensor changes
+pub named_kept : (tensors : Contents) (k : ℕ) (c : Content) (names : List (List ℕ)) → names ≡ names_of tensors → names ≡ names_of (set_value_at tensors k c)
+named_kept tensors k c names e = e ∙ sym (names_kept tensors k c)
+
+-- what the tensor at a place stores
+pub stored_at : (tensors : Contents) (k : ℕ) (c : Content) → option_map (λ t. t.1) (slice_get tensors k) ≡ Some c → dense_levels c.extents ≡ tensor_at (stored_of_all tensors) k
+stored_at [] k c g = absurd (not_there c g)
+stored_at (t ∷ ts) zero c g = ap (λ (x : Content). dense_levels x.extents) (sym (same_there t.1 c g))
+stored_at (t ∷ ts) (suc k) c g = stored_at ts k c g
 
 changed_at : (F : Content → Contents) (tensors : Contents) (o : Option (List ℕ × Content)) (was : Content) → option_map (λ t. t.1) o ≡ Some was → F was ≡ unwrap_or (option_map (λ t. F t.1) o) tensors
 changed_at F tensors None was g = absurd (not_there was g)
@@ -207,42 +216,132 @@ fits_none : (o : Option Placement) (m : MachineView) → IfSome o (FitsMachine N
 fits_none None m h = tt
 fits_none (Some p) m h = absurd h
 
+-- no statement is lawful or not
+none_stated : (tensors : Contents) (closed : List Scheduled) → closed ≡ [] → All (IsScheduled tensors) closed
+none_stated tensors closed e = (let P : List Scheduled → Type 0 = λ l. All (IsScheduled tensors) l in subst P (sym e) (λ k s l. absurd (omega (arith, l))))
+
 -- the machine comes: until then no line places a tensor
-pub machine_draft : (d : DraftView) (m : MachineView) (next : Phase) → knows_machine d.phase ≡ false → knows_machine next ≡ true → IsDraft d → IsDraft (record d { machine = Some m; phase = next })
-machine_draft d m next o n h =
+pub machine_draft : (d : DraftView) (m : MachineView) (next : Phase) → takes_machine d.phase ≡ true → next ≡ phases.Declarations → IsDraft d → IsDraft (record d { machine = Some m; phase = next })
+machine_draft d m next at n h =
     let P : Option MachineView → Type 0 = λ machine. All (IsPlaced machine) d.tensors in
-    let none : All (IsPlaced None) d.tensors = subst P (not_known d.machine (h.machine ∙ o)) h.places in
-    record {
-      machine = sym n;
+    let B : Phase → Type 0 = λ p. is_past_declarations p ≡ false → stated (record d { phase = p }) ≡ [] in
+    let N : Phase → Type 0 = λ p. IsDraft (record d { machine = Some m; phase = p }) in
+    let unknown : is_some d.machine ≡ false = h.machine ∙ ap knows_machine (machine_phase d.phase at) in
+    let none : All (IsPlaced None) d.tensors = subst P (not_known d.machine unknown) h.places in
+    let closed : d.closed ≡ [] = subst B (machine_phase d.phase at) h.begun refl in
+    subst N (sym n) (record {
+      machine = refl;
       places = λ k t l. fits_none (get_or d.tensors k t).1.placement m (none k t l);
       few = h.few;
-      few_stmts = h.few_stmts;
-      stmts = h.stmts;
+      differ = h.differ;
+      stored = h.stored;
+      few_stmts = omega (arith, ap length closed);
+      stmts = none_stated d.tensors d.closed closed;
+      begun = λ e. closed;
       shows = h.shows;
+    })
+
+-- Statements -----------------------------------------------------------------------------------------------------------------
+
+-- what is so of all statements is so of those that are closed
+closed_all : (P : Scheduled → Type 0) (closed : List Scheduled) (o : Option Scheduled) → All P (unwrap_or (option_map (λ s. closed ++ s ∷ []) o) closed) → All P closed
+closed_all P closed None h = h
+closed_all P closed (Some s) h = λ k d l. subst P (get_or_append_left closed (s ∷ []) d k l) (h k d (omega (arith, l, length-append closed (s ∷ []))))
+
+-- and of the open one
+open_all : (P : Scheduled → Type 0) (closed : List Scheduled) (s : Scheduled) → All P (closed ++ s ∷ []) → P s
+open_all P closed s h = subst P (get_or-append_seam closed s [] s) (h (length closed) s (omega (arith, length-append closed (s ∷ []))))
+
+true_not_false : ◌≡◌ {A = Bool} true false → ⊥
+true_not_false e = cc
+
+closed_few : (closed : List Scheduled) (o : Option Scheduled) → length closed ≤ length (unwrap_or (option_map (λ s. closed ++ s ∷ []) o) closed)
+closed_few closed None = omega arith
+closed_few closed (Some s) = omega (arith, length-append closed (s ∷ []))
+
+-- no statement is open any more
+pub rested_draft : (d : DraftView) (closed : List Scheduled) (next : Phase) → knows_machine d.phase ≡ true → closed ≡ d.closed → next ≡ phases.Statements → IsDraft d → IsDraft (record d { closed = closed; phase = next })
+rested_draft d closed next k e n h =
+    let C : List Scheduled → Type 0 = λ l. IsDraft (record d { closed = l; phase = next }) in
+    let N : Phase → Type 0 = λ p. IsDraft (record d { phase = p }) in
+    subst C (sym e) (subst N (sym n) (record {
+      machine = h.machine ∙ k;
+      places = h.places;
+      few = h.few;
+      differ = h.differ;
+      stored = h.stored;
+      few_stmts = omega (arith, h.few_stmts, closed_few d.closed (open_stmt d.phase));
+      stmts = closed_all (IsScheduled d.tensors) d.closed (open_stmt d.phase) h.stmts;
+      begun = λ e. absurd (true_not_false e);
+      shows = h.shows;
+    }))
+
+-- one more statement
+more_draft : (d : DraftView) (s : Scheduled) (closed : List Scheduled) → knows_machine d.phase ≡ true → length d.closed < 32 → IsScheduled d.tensors s → closed ≡ d.closed ++ s ∷ [] → IsDraft d
+    → IsDraft (record d { closed = closed; phase = phases.Statements })
+more_draft d s closed k few l e h =
+    let C : List Scheduled → Type 0 = λ l. IsDraft (record d { closed = l; phase = phases.Statements }) in
+    subst C (sym e) (record {
+      machine = h.machine ∙ k;
+      places = h.places;
+      few = h.few;
+      differ = h.differ;
+      stored = h.stored;
+      few_stmts = omega (arith, few, length-append d.closed (s ∷ []));
+      stmts = All-push (IsScheduled d.tensors) d.closed s (closed_all (IsScheduled d.tensors) d.closed (open_stmt d.phase) h.stmts) l;
+      begun = λ e. absurd (true_not_false e);
+      shows = h.shows;
+    })
+
+-- a statement is closed
+pub closed_draft : (d : DraftView) (s : Scheduled) (closed : List Scheduled) (next : Phase) → knows_machine d.phase ≡ true → length d.closed < 32 → IsScheduled d.tensors s → closed ≡ d.closed ++ s ∷ [] → next ≡ phases.Statements → IsDraft d
+    → IsDraft (record d { closed = closed; phase = next })
+closed_draft d s closed next k few l e n h =
+    let N : Phase → Type 0 = λ p. IsDraft (record d { closed = closed; phase = p }) in
+    subst N (sym n) (more_draft d s closed k few l e h)
+
+-- a statement is opened
+pub opened_draft : (d : DraftView) (s : Scheduled) (next : Phase) → knows_machine d.phase ≡ true → length d.closed < 32 → IsScheduled d.tensors s → next ≡ phases.Open s → IsDraft d → IsDraft (record d { phase = next })
+opened_draft d s next k few l n h =
+    let N : Phase → Type 0 = λ p. IsDraft (record d { phase = p }) in
+    let m : IsDraft (record d { closed = d.closed ++ s ∷ []; phase = phases.Statements }) = more_draft d s (d.closed ++ s ∷ []) k few l refl h in
+    subst N (sym n) (record {
+      machine = m.machine;
+      places = m.places;
+      few = m.few;
+      differ = m.differ;
+      stored = m.stored;
+      few_stmts = m.few_stmts;
+      stmts = m.stmts;
+      begun = λ e. absurd (true_not_false e);
+      shows = m.shows;
+    })
+
+-- what a draft says of its open statement
+pub record OpenFacts (d : DraftView) (s : Scheduled) : Type 0 where
+  pub known : knows_machine d.phase ≡ true
+  pub few : length d.closed < 32
+  pub lawful : IsScheduled d.tensors s
+
+pub open_facts : (d : DraftView) (s : Scheduled) → d.phase ≡ phases.Open s → IsDraft d → OpenFacts d s
+open_facts d s e h =
+    let L : Phase → Type 0 = λ p. length (stated (record d { phase = p })) ≤ 32 in
+    let P : Phase → Type 0 = λ p. All (IsScheduled d.tensors) (stated (record d { phase = p })) in
+    record {
+      known = ap knows_machine e;
+      few = omega (arith, subst L e h.few_stmts, length-append d.closed (s ∷ []));
+      lawful = open_all (IsScheduled d.tensors) d.closed s (subst P e h.stmts);
     }
 
--- the names read so far and those to read
-pub names_more : (front after whole : List (List ℕ)) (name : List ℕ) (c : Content) (rest left : Contents) → after ≡ front ++ name ∷ [] → rest ≡ (name, c) ∷ left → front ++ names_of rest ≡ whole → after ++ names_of left ≡ whole
-names_more front after whole name c rest left a r w =
-    ap (λ (xs : List (List ℕ)). xs ++ names_of left) a ∙ append_assoc front (name ∷ []) (names_of left) ∙ ap (λ (ts : Contents). front ++ names_of ts) (sym r) ∙ w
+-- Jobs -----------------------------------------------------------------------------------------------------------------------
 
 -- one more lawful tensor is made
 pub lawful_more : (front after : List Packed) (t : Packed) → after ≡ front ++ t ∷ [] → All IsJobTensor front → IsJobTensor t → All IsJobTensor after
 lawful_more front after t a h l = (let P : List Packed → Type 0 = λ ts. All IsJobTensor ts in subst P (sym a) (All-push IsJobTensor front t h l))
 
--- the tensors made so far and those to make
-pub tensors_more : (front after whole : List Packed) (t : Packed) (name : List ℕ) (c : Content) (rest left : Contents) → after ≡ front ++ t ∷ [] → t ≡ tensor_of c → rest ≡ (name, c) ∷ left → front ++ tensors_of rest ≡ whole → after ++ tensors_of left ≡ whole
-tensors_more front after whole t name c rest left a e r w =
-    ap (λ (xs : List Packed). xs ++ tensors_of left) a ∙ ap (λ (x : Packed). (front ++ x ∷ []) ++ tensors_of left) e ∙ append_assoc front (tensor_of c ∷ []) (tensors_of left) ∙ ap (λ (ts : Contents). front ++ tensors_of ts) (sym r) ∙ w
-
 shapes_kept : (tensors : Contents) → map (λ (t : Packed). t.extents) (tensors_of tensors) ≡ extents_of_all tensors
 shapes_kept [] = refl
 shapes_kept (t ∷ ts) = ap (λ (xs : List (List ℕ)). t.1.extents ∷ xs) (shapes_kept ts)
-
--- the placements made so far and those to make
-pub places_more : (front after whole : List Placement) (p : Placement) (name : List ℕ) (c : Content) (rest left : Contents) → after ≡ front ++ p ∷ [] → p ≡ placement_of c → rest ≡ (name, c) ∷ left → front ++ places_of rest ≡ whole → after ++ places_of left ≡ whole
-places_more front after whole p name c rest left a e r w =
-    ap (λ (xs : List Placement). xs ++ places_of left) a ∙ ap (λ (x : Placement). (front ++ x ∷ []) ++ places_of left) e ∙ append_assoc front (placement_of c ∷ []) (places_of left) ∙ ap (λ (ts : Contents). front ++ places_of ts) (sym r) ∙ w
 
 -- the placement of a tensor fits the machine, also where no line says it
 placed_fits : (m : MachineView) (o : Option Placement) → IfSome o (FitsMachine (Some m)) → FitsOn m (unwrap_or o FirstNode)
@@ -252,32 +351,45 @@ placed_fits m (Some p) h = h
 places_fit : (m : MachineView) (tensors : Contents) → All (IsPlaced (Some m)) tensors → All (FitsOn m) (places_of tensors)
 places_fit m tensors h = All-map (FitsOn m) (λ t. placement_of t.1) tensors (λ k t l. placed_fits m (get_or tensors k t).1.placement (h k t l))
 
+-- the tensors of a job store what those of its draft do
+stored_kept : (tensors : Contents) → map stored_of (tensors_of tensors) ≡ stored_of_all tensors
+stored_kept [] = refl
+stored_kept (t ∷ ts) = ap (λ (l : List StoredTensor). dense_levels t.1.extents ∷ l) (stored_kept ts)
+
+-- statements with their schedules are parts
+are_parts : (tensors : Contents) (closed : List Scheduled) → All (IsScheduled tensors) closed → ArePartsOf (stored_of_all tensors) (names_of tensors) (map (λ s. s.stmt) closed) (map part_of closed)
+are_parts tensors [] h = tt
+are_parts tensors (s ∷ closed) h = ((h 0 s (omega arith)).part, are_parts tensors closed (all_behind (IsScheduled tensors) s closed h))
+
 -- the job of a lawful draft
-pub lawful_job : (d : DraftView) (m : MachineView) (j : Job) → j ≡ job_on d m → d.machine ≡ Some m → IsDraft d → IsDistinct bytes_eq (names_of d.tensors) → All IsJobTensor j.tensors → IsJob j
-lawful_job d m j e k h u t =
+pub lawful_job : (d : DraftView) (m : MachineView) (j : Job) → j ≡ job_on d m → d.machine ≡ Some m → IsDraft d → All IsJobTensor j.tensors → IsJob j
+lawful_job d m j e k h t =
     let P : Job → Type 0 = λ k. All IsJobTensor k.tensors in
     let Q : Option MachineView → Type 0 = λ machine. All (IsPlaced machine) d.tensors in
+    let S : List StoredTensor → Type 0 = λ l. ArePartsOf l (names_of d.tensors) (map (λ s. s.stmt) d.closed) (map part_of d.closed) in
+    let closed : All (IsScheduled d.tensors) d.closed = closed_all (IsScheduled d.tensors) d.closed (open_stmt d.phase) h.stmts in
     subst IsJob (sym e) (record {
       named = length-map d.tensors (λ c. c.0) ∙ sym (length-map d.tensors (λ c. tensor_of c.1));
-      differ = u;
+      differ = h.differ;
       few = omega (arith, h.few, length-map d.tensors (λ c. tensor_of c.1));
       tensors = subst P e t;
       placed = length-map d.tensors (λ c. placement_of c.1) ∙ sym (length-map d.tensors (λ c. tensor_of c.1));
       places = places_fit m d.tensors (subst Q k h.places);
-      few_stmts = h.few_stmts;
-      stmts = λ k s l. rw (shapes_kept d.tensors) (h.stmts k s l);
+      few_stmts = omega (arith, h.few_stmts, closed_few d.closed (open_stmt d.phase), length-map d.closed (λ s. s.stmt));
+      stmts = rw (shapes_kept d.tensors) (All-map (IsJobStmt (extents_of_all d.tensors)) (λ (s : Scheduled). s.stmt) d.closed (λ k s l. (closed k s l).stmt));
+      headed = length-map d.closed (λ s. s.head) ∙ sym (length-map d.closed (λ s. s.stmt));
+      parts = subst S (sym (stored_kept d.tensors)) (are_parts d.tensors d.closed closed);
       shows = λ k s l. below_more (length d.tensors) (length (tensors_of d.tensors)) (get_or d.shows k s) (omega (arith, length-map d.tensors (λ c. tensor_of c.1))) (h.shows k s l);
     })
 
 -- the job that is made where no tensor is left
-pub made_job : (d : DraftView) (m : MachineView) (j : Job) (names : List (List ℕ)) (tensors : List Packed) (places : List Placement) (rest : Contents)
-    → j.machine ≡ m → j.names ≡ names → j.tensors ≡ tensors → j.places ≡ places → j.stmts ≡ d.stmts → j.shows ≡ d.shows → rest ≡ []
-    → names ++ names_of rest ≡ names_of d.tensors → tensors ++ tensors_of rest ≡ tensors_of d.tensors → places ++ places_of rest ≡ places_of d.tensors → j ≡ job_on d m
-made_job d m j names tensors places rest x n t p s w r a b c =
-    let all_names : j.names ≡ names_of d.tensors = n ∙ sym (append-nil names) ∙ ap (λ (ts : Contents). names ++ names_of ts) (sym r) ∙ a in
+pub made_job : (d : DraftView) (m : MachineView) (j : Job) (tensors : List Packed) (places : List Placement) (rest : Contents)
+    → j.machine ≡ m → j.names ≡ names_of d.tensors → j.tensors ≡ tensors → j.places ≡ places → j.stmts ≡ map (λ s. s.stmt) d.closed → j.heads ≡ map (λ s. s.head) d.closed → j.parts ≡ map part_of d.closed → j.shows ≡ d.shows → rest ≡ []
+    → tensors ++ tensors_of rest ≡ tensors_of d.tensors → places ++ places_of rest ≡ places_of d.tensors → j ≡ job_on d m
+made_job d m j tensors places rest x n t p s q u w r b c =
     let all_tensors : j.tensors ≡ tensors_of d.tensors = t ∙ sym (append-nil tensors) ∙ ap (λ (ts : Contents). tensors ++ tensors_of ts) (sym r) ∙ b in
     let all_places : j.places ≡ places_of d.tensors = p ∙ sym (append-nil places) ∙ ap (λ (ts : Contents). places ++ places_of ts) (sym r) ∙ c in
-    λ i. record { machine = x i; names = all_names i; tensors = all_tensors i; places = all_places i; stmts = s i; shows = w i }
+    λ i. record { machine = x i; names = n i; tensors = all_tensors i; places = all_places i; stmts = s i; heads = q i; parts = u i; shows = w i }
 
 -- the job of a draft whose machine is known
 pub job_of_draft : (d : DraftView) (m : MachineView) (j : Job) → d.machine ≡ Some m → j ≡ job_on d m → option_map (job_on d) d.machine ≡ Some j

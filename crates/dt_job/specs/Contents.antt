@@ -1,8 +1,9 @@
 -- The tensors that a job declares.
 use Rattle.std.specs.Prelude.{ℕ, List, length, map, replicate, Bool, true, false, Option, Some, is_some, option_map, unwrap_or, slice_get}
 use Rattle.dt_base.specs.Rows.{product}
+use Rattle.dt_model.specs.Positions.{StoredTensor}
 use Rattle.dt_index.specs.Known.{Known}
-use Rattle.dt_tensor.specs.Packed.{Packed, dense_tensor}
+use Rattle.dt_tensor.specs.Packed.{Packed, dense_levels, dense_tensor}
 use Rattle.dt_place.specs.declared.placements.Placement.{Placement}
 use Rattle.dt_place.specs.declared.placements.Placement.TheVariants.{FirstNode}
 use Rattle.indexmap.specs.Layout.{set_value_at}
@@ -28,6 +29,10 @@ extents_of_all tensors = map (λ t. t.1.extents) tensors
 -- a tensor as statements know it
 abbrev pub known_of : Contents → List Known
 known_of tensors = map (λ t. record { name = t.0; extents = t.1.extents; dense = true }) tensors
+
+-- what each tensor stores
+abbrev pub stored_of_all : Contents → List StoredTensor
+stored_of_all tensors = map dense_levels (extents_of_all tensors)
 
 -- the dense tensor with the numbers that are given, and with zeros where none are
 abbrev pub tensor_of : Content → Packed

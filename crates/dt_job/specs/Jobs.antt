@@ -8,13 +8,14 @@ use Rattle.dt_model.specs.Stmts.{AreEven, AreUsed, IsStmt}
 use Rattle.dt_model.specs.declared.stmt.Stmt.{Stmt}
 use Rattle.dt_index.specs.Reads.{right_side_reads}
 use Rattle.dt_index.specs.Resolve.{IsSmall}
-use Rattle.dt_tensor.specs.Packed.{Packed, dense_tensor}
+use Rattle.dt_tensor.specs.Packed.{Packed, dense_tensor, stored_of}
 use Rattle.dt_place.specs.Machines.{MachineView}
 use Rattle.dt_place.specs.Placements.{IsPlacement}
 use Rattle.dt_place.specs.declared.placements.Placement.{Placement}
 use Rattle.dt_job.specs.declared.job.Job.{Job}
 use Rattle.dt_job.specs.declared.outputs.Show.{Show}
 use Rattle.dt_job.specs.declared.outputs.Show.TheVariants.{Print}
+use Rattle.dt_job.specs.PartsOf.{ArePartsOf}
 
 -- A statement over tensors of these shapes: each variable stands in it, each term has each reduction variable, it has
 -- at most 16 terms of at most 8 factors, and it does not read its left tensor.
@@ -45,7 +46,7 @@ abbrev pub FitsOn : MachineView → Placement → Type 0
 FitsOn m p = IsPlacement p m
 
 -- At most 32 tensors, whose names differ, each with a placement that fits the machine, and at most 32 statements over
--- them; every output is one of them.
+-- them, each with its text and its part; every output is one of them.
 pub record IsJob (j : Job) : Type 0 where
   pub named : length j.names ≡ length j.tensors
   pub differ : IsDistinct bytes_eq j.names
@@ -55,4 +56,6 @@ pub record IsJob (j : Job) : Type 0 where
   pub places : All (FitsOn j.machine) j.places
   pub few_stmts : length j.stmts ≤ 32
   pub stmts : All (IsJobStmt (shapes_of_job j)) j.stmts
+  pub headed : length j.heads ≡ length j.stmts
+  pub parts : ArePartsOf (map stored_of j.tensors) j.names j.stmts j.parts
   pub shows : All (ShowsBelow (length j.tensors)) j.shows

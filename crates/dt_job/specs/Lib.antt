@@ -3,6 +3,7 @@ pub mod Drafts
 pub mod Fills
 pub mod Jobs
 pub mod Lines
+pub mod PartsOf
 pub mod Phases
 pub mod Read
 pub mod Shapes

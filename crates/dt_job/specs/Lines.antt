@@ -1,6 +1,6 @@
 -- What each line says: the draft after it, or the first cause against it.
-use Rattle.std.specs.Prelude.{ℕ, List, [], ◌∷◌, ◌++◌, length, codes, not, ◌&&◌, ◌==◌, nat_le, nat_lt, if◌then◌else◌, None, Some, is_some, Result, Ok, Err}
-use Rattle.std.specs.List.{list_all}
+use Rattle.std.specs.Prelude.{ℕ, List, [], ◌∷◌, ◌++◌, length, codes, not, ◌&&◌, ◌==◌, Bool, nat_le, nat_lt, if◌then◌else◌, None, Some, is_some, option_map, Result, Ok, Err}
+use Rattle.std.specs.List.{list_all, list_any}
 use Rattle.std.specs.Str.{bytes_eq}
 use Rattle.dt_base.specs.Rows.{product}
 use Rattle.dt_text.specs.Lines.{plain_line}
@@ -17,17 +17,22 @@ use Rattle.dt_model.specs.declared.cause.LineEnd.TheVariants as line_ends
 use Rattle.dt_model.specs.Shape.{dims, shape_of_extents}
 use Rattle.dt_model.specs.Steps.{◌>>=◌, need, found}
 use Rattle.dt_index.specs.Known.{place_of}
-use Rattle.dt_index.specs.Resolve.{parsed_of}
+use Rattle.dt_index.specs.Printed.{stmt_text}
+use Rattle.dt_index.specs.Resolve.{Resolved, parsed_of}
+use Rattle.dt_nest.specs.Chain.{stmt_schedule}
 use Rattle.dt_place.specs.MachineLine as machine_lines
+use Rattle.dt_place.specs.Machines.{dims_of}
 use Rattle.dt_place.specs.PlaceLine.{form_of, placed_of}
+use Rattle.dt_schedule.specs.Commands.{command_line}
 use Rattle.dt_job.specs.declared.outputs.Show.TheVariants.{Print}
 use Rattle.dt_job.specs.declared.phases.Phase.TheVariants as phase
-use Rattle.dt_job.specs.Contents.{is_given, is_placed, known_of, order_of, position_count_of, with_placement, with_values}
+use Rattle.dt_job.specs.declared.scheduled.Scheduled.{Scheduled}
+use Rattle.dt_job.specs.Contents.{is_given, is_placed, known_of, names_of, order_of, position_count_of, with_placement, with_values}
 use Rattle.dt_job.specs.Drafts.{DraftView}
 use Rattle.dt_job.specs.Fills.{fill_values}
 use Rattle.dt_job.specs.declared.fills.Fill.{Fill}
 use Rattle.dt_job.specs.declared.fills.Fill.TheVariants.{Ramp, Seed}
-use Rattle.dt_job.specs.Phases.{takes_declaration, takes_distal, takes_end, takes_machine, takes_output, takes_stmt}
+use Rattle.dt_job.specs.Phases.{open_stmt, takes_declaration, takes_distal, takes_machine, takes_output, takes_stmt}
 use Rattle.dt_job.specs.Shapes.{are_numerals, extent_words, is_dense_letter, level_words, numbers_of, numeral_of}
 
 -- `distal 1`
@@ -144,21 +149,37 @@ fill_line d (name ∷ kind) = do
   fill ← fill_of kind
   filled_in d name fill
 
+-- a statement that is read, with its text and the schedule that it starts with
+abbrev pub scheduled_of : Resolved → List (List ℕ) → Scheduled
+scheduled_of r tensors = record { stmt = r.stmt; head = stmt_text r.stmt r.variables tensors; sched = stmt_schedule r.stmt r.variables tensors }
+
 -- `stmt TEXT`
 unfoldable pub stmt_line : DraftView → List ℕ → Result DraftView Cause
 stmt_line d text = do
   _ ← need (takes_stmt d.phase) cause.OutOfPlace
   r ← parsed_of (known_of d.tensors) text
-  _ ← need (nat_lt (length d.stmts) 32) cause.TooManyStatements
-  Ok (record d { stmts = d.stmts ++ r.stmt ∷ []; phase = phase.Open })
+  _ ← need (nat_lt (length d.closed) 32) cause.TooManyStatements
+  Ok (record d { phase = phase.Open (scheduled_of r (names_of d.tensors)) })
+
+-- the first words of commands
+abbrev pub is_command : List ℕ → Bool
+is_command word = list_any (bytes_eq word) (codes "split" ∷ codes "divide" ∷ codes "reorder" ∷ codes "collapse" ∷ codes "rotate" ∷ codes "distribute" ∷ codes "communicate" ∷ [])
+
+-- a command line: the open statement gets another schedule
+unfoldable pub schedule_line : DraftView → List ℕ → Result DraftView Cause
+schedule_line d text = do
+  s ← found (open_stmt d.phase) cause.OutOfPlace
+  grid ← found (option_map dims_of d.machine) cause.OutOfPlace
+  sched ← command_line s.sched grid (tokens_of text)
+  Ok (record d { phase = phase.Open (record s { sched = sched }) })
 
 -- `end`
 unfoldable pub end_line : DraftView → List (List ℕ) → Result DraftView Cause
 end_line d [] = do
-  _ ← need (takes_end d.phase) cause.OutOfPlace
-  Ok (record d { phase = phase.Statements })
+  s ← found (open_stmt d.phase) cause.OutOfPlace
+  Ok (record d { closed = d.closed ++ s ∷ []; phase = phase.Statements })
 end_line d _ = do
-  _ ← need (takes_end d.phase) cause.OutOfPlace
+  _ ← found (open_stmt d.phase) cause.OutOfPlace
   Err cause.Syntax
 
 -- `print NAME`
@@ -172,19 +193,20 @@ print_line d _ = do
   _ ← need (takes_output d.phase) cause.OutOfPlace
   Err cause.Syntax
 
--- a line by its first word; `rest` is what stands behind that word, byte by byte
+-- a line by its first word; `text` is the whole line, byte by byte
 unfoldable pub words_line : DraftView → List ℕ → List (List ℕ) → Result DraftView Cause
-words_line d rest [] = Ok d
-words_line d rest (word ∷ words) =
+words_line d text [] = Ok d
+words_line d text (word ∷ words) =
     if bytes_eq word (codes "distal") then distal_line d words
-    else if bytes_eq word (codes "machine") then machine_line d rest
+    else if bytes_eq word (codes "machine") then machine_line d (after_word text)
     else if bytes_eq word (codes "tensor") then tensor_line d words
-    else if bytes_eq word (codes "place") then place_line d rest
+    else if bytes_eq word (codes "place") then place_line d (after_word text)
     else if bytes_eq word (codes "data") then data_line d words
     else if bytes_eq word (codes "fill") then fill_line d words
-    else if bytes_eq word (codes "stmt") then stmt_line d rest
+    else if bytes_eq word (codes "stmt") then stmt_line d (after_word text)
     else if bytes_eq word (codes "end") then end_line d words
     else if bytes_eq word (codes "print") then print_line d words
+    else if is_command word then schedule_line d text
     else Err cause.UnknownWord
 
 -- the words of a line, where no byte of it is wrong
@@ -204,4 +226,4 @@ line_end_of text_ends.NoMemory = line_ends.NoMemory
 unfoldable pub bytes_line : DraftView → List ℕ → Result DraftView Cause
 bytes_line d bytes = do
   words ← words_of (line_words bytes)
-  words_line d (after_word (plain_line bytes)) words
+  words_line d (plain_line bytes) words

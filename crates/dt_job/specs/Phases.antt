@@ -1,7 +1,8 @@
 -- Which lines may come when.
-use Rattle.std.specs.Prelude.{Bool, true, false}
+use Rattle.std.specs.Prelude.{Bool, true, false, Option, Some, None}
 use Rattle.dt_job.specs.declared.phases.Phase.{Phase}
 use Rattle.dt_job.specs.declared.phases.Phase.TheVariants as phase
+use Rattle.dt_job.specs.declared.scheduled.Scheduled.{Scheduled}
 
 -- whether the line `distal` may come
 abbrev pub takes_distal : Phase → Bool
@@ -30,10 +31,17 @@ takes_stmt phase.Declarations = true
 takes_stmt phase.Statements = true
 takes_stmt _ = false
 
--- whether a line `end` may come
-abbrev pub takes_end : Phase → Bool
-takes_end phase.Open = true
-takes_end _ = false
+-- the open statement, where one is open
+abbrev pub open_stmt : Phase → Option Scheduled
+open_stmt (phase.Open s) = Some s
+open_stmt _ = None
+
+-- whether the declarations are over
+abbrev pub is_past_declarations : Phase → Bool
+is_past_declarations phase.Version = false
+is_past_declarations phase.Machine = false
+is_past_declarations phase.Declarations = false
+is_past_declarations _ = true
 
 -- whether an output may come
 abbrev pub takes_output : Phase → Bool

@@ -1,5 +1,5 @@
 -- The job that a text is: its lines from first to last.
-use Rattle.std.specs.Prelude.{◌≡◌, ℕ, ◌+◌, List, [], ◌∷◌, if◌then◌else◌, Option, None, option_map, Result, Ok, Err}
+use Rattle.std.specs.Prelude.{◌≡◌, ℕ, ◌+◌, List, [], ◌∷◌, map, if◌then◌else◌, Option, None, option_map, Result, Ok, Err}
 use Rattle.dt_text.specs.Lines.{lines_of}
 use Rattle.dt_model.specs.declared.cause.Cause.{Cause}
 use Rattle.dt_model.specs.declared.cause.Cause.TheVariants as cause
@@ -11,7 +11,7 @@ use Rattle.dt_job.specs.declared.job.Job.{Job}
 use Rattle.dt_job.specs.declared.reading.JobEnd.{JobEnd}
 use Rattle.dt_job.specs.declared.reading.JobEnd.TheVariants as ends
 use Rattle.dt_job.specs.Contents.{names_of, places_of, tensors_of}
-use Rattle.dt_job.specs.Drafts.{DraftView, empty_draft}
+use Rattle.dt_job.specs.Drafts.{DraftView, empty_draft, part_of}
 use Rattle.dt_job.specs.Lines.{bytes_line}
 use Rattle.dt_job.specs.Phases.{is_whole}
 
@@ -27,7 +27,16 @@ then_lines (Err e) f = Err e
 
 -- the job of a draft on this machine
 abbrev pub job_on : DraftView → MachineView → Job
-job_on d m = record { machine = m; names = names_of d.tensors; tensors = tensors_of d.tensors; places = places_of d.tensors; stmts = d.stmts; shows = d.shows }
+job_on d m = record {
+  machine = m;
+  names = names_of d.tensors;
+  tensors = tensors_of d.tensors;
+  places = places_of d.tensors;
+  stmts = map (λ s. s.stmt) d.closed;
+  heads = map (λ s. s.head) d.closed;
+  parts = map part_of d.closed;
+  shows = d.shows;
+}
 
 -- the job that a draft is, where its machine is known and no statement is open
 abbrev pub whole_job : DraftView → Option Job

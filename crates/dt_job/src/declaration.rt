@@ -7,7 +7,7 @@ ghost use Rattle.dt_model.specs.Shape.{dims, IsShape};
 use dt_base::NoMemory;
 use dt_model::Shape;
 use dt_place::Placement;
-use dt_tensor::Tensor;
+use dt_tensor::{DenseLevels, Tensor};
 use std::alloc::Global;
 use std::marker::Model;
 
@@ -36,6 +36,7 @@ impl Declared {
     ghost use Rattle.std.specs.Prelude.{◌≡◌, ◌≤◌, IfOk, None, Some, is_some, length};
     ghost use Rattle.dt_base.specs.Rows.{product};
     ghost use Rattle.dt_model.specs.Shape.{dims, IsShape};
+    ghost use Rattle.dt_tensor.specs.Packed.{dense_levels};
     ghost use Rattle.dt_job.specs.Contents.{placement_of, tensor_of};
     ghost use Rattle.dt_job.specs.Jobs.{IsJobTensor};
 
@@ -72,6 +73,13 @@ impl Declared {
         ensures dims { dims result ≡ self.now.extents }
     {
         self.shape
+    }
+
+    /// Where its words lie.
+    pub fn levels(&self) -> DenseLevels
+        ensures { result ≡ dense_levels self.now.extents }
+    {
+        DenseLevels::new(self.shape)
     }
 
     /// Whether a line has given its numbers.

@@ -1,48 +1,66 @@
 //! What the lines read so far say.
 
+ghost use Rattle.std.specs.Prelude.{◌≡◌, ◌∷◌, ◌++◌, [], None, OnOk, OnErr};
+ghost use Rattle.std.specs.List.{IsDistinct};
+ghost use Rattle.std.specs.Str.{bytes_eq};
+ghost use Rattle.dt_index.specs.Known.{place_of};
+ghost use Rattle.dt_job.specs.Contents.{known_of, names_of};
+
 use crate::declaration::Declared;
 use crate::job::Job;
 use crate::keys::Key;
 use crate::outputs::{Show, Shows};
 use crate::phases::Phase;
-use dt_base::{Name, Names, NoMemory};
+use crate::scheduled::{Scheduled, separated};
+use dt_base::{Coords, Name, Names, NoMemory};
 use dt_index::Lookup;
-use dt_model::{Shape, Stmt, Stmts};
+use dt_model::{Locator, Shape};
 use dt_place::{Machine, Placement, Places};
-use dt_tensor::Tensors;
+use dt_tensor::{DenseLevels, Tensors};
 use indexmap::IndexMap;
 use std::alloc::Global;
 use std::marker::Model;
+use std::mem;
 
 /// What the lines read so far say.
 #[derive(Drop)]
 pub struct Draft {
     machine: Option<Machine>,
+    // The tensors' names again, in order, for the calls that take a list.
+    names: Names,
     tensors: IndexMap<Name, Declared>,
-    stmts: Stmts,
+    closed: Vec<Scheduled>,
     shows: Shows,
     phase: Phase,
 }
 
 impl Model for Draft {
+    ghost use Rattle.std.specs.Coded.{Coded, codes};
+    ghost use Rattle.std.specs.Prelude.{◌≡◌};
+    ghost use Rattle.dt_nest.specs.TreeCode.{Node, tree_code};
+    ghost use Rattle.dt_job.specs.Contents.{names_of};
     ghost use Rattle.dt_job.specs.Drafts.{DraftView, IsDraft};
 
     ghost Value = { DraftView };
 
-    ghost view = { λ d. record { machine = d.machine; tensors = d.tensors.entries; stmts = d.stmts; shows = d.shows; phase = d.phase } };
+    ghost coded = { let node : Coded Node = Prim.hlevel codes in Prim.hlevel (codes, tree_code node) };
 
-    ghost invariant = { λ d. IsDraft (record { machine = d.machine; tensors = d.tensors.entries; stmts = d.stmts; shows = d.shows; phase = d.phase }) };
+    ghost view = { λ d. record { machine = d.machine; tensors = d.tensors.entries; closed = d.closed.items; shows = d.shows; phase = d.phase } };
+
+    ghost invariant = { λ d. IsDraft (record { machine = d.machine; tensors = d.tensors.entries; closed = d.closed.items; shows = d.shows; phase = d.phase }) × (d.names ≡ names_of d.tensors.entries) };
 }
 
 impl Draft {
-    ghost use Rattle.std.specs.Prelude.{◌≡◌, ◌≤◌, ◌<◌, ◌∷◌, ◌++◌, [], length, IfOk, IfSome, None, OnOk, OnErr, option_copied, slice_get, Some, option_map, true, false};
+    ghost use Rattle.std.specs.Prelude.{◌≡◌, ◌≤◌, ◌<◌, ◌∷◌, ◌++◌, [], length, IfOk, IfNone, IfSome, None, OnOk, OnErr, OnSome, option_copied, slice_get, Some, option_map, true, false};
     ghost use Rattle.dt_base.specs.Rows.{product};
+    ghost use Rattle.dt_model.specs.Positions.{tensor_at};
     ghost use Rattle.dt_model.specs.Shape.{dims, IsShape};
     ghost use Rattle.dt_index.specs.Known.{known_extents, place_of};
-    ghost use Rattle.dt_job.specs.Contents.{extents_of_all, is_given, is_placed, known_of, order_of, position_count_of, with_placement, with_values};
-    ghost use Rattle.dt_job.specs.Drafts.{DraftView, FitsMachine, empty_draft};
-    ghost use Rattle.dt_job.specs.Jobs.{IsJob, IsJobStmt, ShowsBelow};
-    ghost use Rattle.dt_job.specs.Phases.{knows_machine};
+    ghost use Rattle.dt_place.specs.Machines.{dims_of};
+    ghost use Rattle.dt_job.specs.Contents.{is_given, is_placed, known_of, names_of, order_of, position_count_of, stored_of_all, with_placement, with_values};
+    ghost use Rattle.dt_job.specs.Drafts.{DraftView, FitsMachine, IsDraft, IsScheduled, empty_draft};
+    ghost use Rattle.dt_job.specs.Jobs.{IsJob, ShowsBelow};
+    ghost use Rattle.dt_job.specs.Phases.{is_whole, knows_machine, open_stmt, takes_declaration, takes_distal, takes_machine, takes_output};
     ghost use Rattle.dt_job.specs.Read.{job_on};
     ghost use Rattle.dt_job.specs.declared.phases.Phase.TheVariants as phases;
 
@@ -51,26 +69,27 @@ impl Draft {
     {
         Draft {
             machine: None,
+            names: Names::new(alloc),
             tensors: IndexMap::new(alloc),
-            stmts: Stmts::new(alloc),
+            closed: Vec::new(alloc),
             shows: Shows::new(alloc),
             phase: Phase::Version,
         }
     }
 
     /// Where the reading stands.
-    pub fn phase(&self) -> Phase
-        ensures { result ≡ self.now.phase }
+    pub fn phase(&self) -> &Phase
+        ensures { result.now ≡ self.now.phase }
     {
-        self.phase
+        &self.phase
     }
 
-    /// Goes on to another phase.
-    pub fn enter(&mut self, next: Phase)
-        requires { knows_machine next ≡ knows_machine self.old.phase }
-        ensures { self.new ≡ record self.old { phase = next } }
+    /// The version is known: goes on to the machine.
+    pub fn begin(&mut self)
+        requires { takes_distal self.old.phase ≡ true }
+        ensures { self.new ≡ record self.old { phase = phases.Machine } }
     {
-        self.phase = next;
+        self.phase.enter(Phase::Machine);
     }
 
     /// The machine, where its line has come.
@@ -80,13 +99,21 @@ impl Draft {
         self.machine.as_ref()
     }
 
+    /// The machine's dimensions.
+    pub fn grid(&self) -> &[u32]
+        requires { knows_machine self.now.phase ≡ true }
+        ensures { option_map dims_of self.now.machine ≡ Some result.now }
+    {
+        self.machine.as_ref().unwrap().dims()
+    }
+
     /// Takes the machine, and goes on to the declarations.
     pub fn run_on(&mut self, machine: Machine)
-        requires { knows_machine self.old.phase ≡ false }
+        requires { takes_machine self.old.phase ≡ true }
         ensures { self.new ≡ record self.old { machine = Some machine; phase = phases.Declarations } }
     {
         self.machine = Some(machine);
-        self.phase = Phase::Declarations;
+        self.phase.enter(Phase::Declarations);
     }
 
     /// How many tensors there are.
@@ -97,11 +124,19 @@ impl Draft {
         self.tensors.len()
     }
 
-    /// How many statements there are.
-    pub fn stmt_count(&self) -> usize
-        ensures { result ≡ length self.now.stmts }
+    /// The tensors' names.
+    pub fn names(&self) -> &Names
+        ensures names { result.now ≡ names_of self.now.tensors }
+        ensures lawful { IsDraft self.now }
     {
-        self.stmts.as_slice().len()
+        &self.names
+    }
+
+    /// How many statements are closed.
+    pub fn closed_count(&self) -> usize
+        ensures { result ≡ length self.now.closed }
+    {
+        self.closed.len()
     }
 
     /// The number of the tensor with this name.
@@ -120,6 +155,14 @@ impl Draft {
         ensures { option_map (λ t. t.1) (slice_get self.now.tensors at) ≡ Some result.now }
     {
         &self.tensors[at as usize]
+    }
+
+    /// Where the tensor's words lie.
+    fn levels(&self, at: u32) -> DenseLevels
+        requires { at < length self.now.tensors }
+        ensures { result ≡ tensor_at (stored_of_all self.now.tensors) at }
+    {
+        self.tensor(at).levels()
     }
 
     /// Whether a line has given the tensor's numbers.
@@ -157,18 +200,25 @@ impl Draft {
     /// One more tensor, without numbers.
     pub fn declare(&mut self, name: Name, shape: Shape) -> Result<(), NoMemory>
         requires new { place_of name (known_of self.old.tensors) ≡ None }
+        requires early { takes_declaration self.old.phase ≡ true }
         requires few { length self.old.tensors < 32 }
         requires shape { IsShape shape }
         requires stored { product (dims shape) ≤ 1048576 }
         ensures ok { OnOk result (self.new ≡ record self.old { tensors = self.old.tensors ++ (name, record { extents = dims shape; values = None; placement = None }) ∷ [] }) }
         ensures err { OnErr result (self.new ≡ self.old) }
     {
-        self.tensors.insert(name, Declared::new(shape))?;
+        add(
+            &mut self.names,
+            &mut self.tensors,
+            name,
+            Declared::new(shape),
+        )?;
         Ok(())
     }
 
     /// The numbers of a tensor, in row-major order.
     pub fn give(&mut self, at: u32, values: Vec<u64>)
+        requires early { takes_declaration self.old.phase ≡ true }
         requires tensor { at < length self.old.tensors }
         requires count { length values.items ≡ position_count_of self.old.tensors at }
         ensures { self.new ≡ record self.old { tensors = with_values self.old.tensors at values.items } }
@@ -178,6 +228,7 @@ impl Draft {
 
     /// The placement of a tensor.
     pub fn set_place(&mut self, at: u32, placement: Placement)
+        requires early { takes_declaration self.old.phase ≡ true }
         requires tensor { at < length self.old.tensors }
         requires lawful { FitsMachine self.old.machine placement }
         ensures { self.new ≡ record self.old { tensors = with_placement self.old.tensors at placement } }
@@ -185,63 +236,112 @@ impl Draft {
         self.tensors[at as usize].place(placement);
     }
 
-    /// One more statement, which stays open.
-    pub fn state(&mut self, stmt: Stmt) -> Result<(), NoMemory>
-        requires few { length self.old.stmts < 32 }
-        requires machine { knows_machine self.old.phase ≡ true }
-        requires stands { IsJobStmt (extents_of_all self.old.tensors) stmt }
-        ensures ok { OnOk result (self.new ≡ record self.old { stmts = self.old.stmts ++ stmt ∷ []; phase = phases.Open }) }
-        ensures err { OnErr result (self.new ≡ self.old) }
+    /// Takes the open statement out, and leaves none open.
+    pub fn take_open(&mut self) -> Option<Scheduled>
+        ensures open { result ≡ open_stmt self.old.phase }
+        ensures taken { OnSome result (self.new ≡ record self.old { phase = phases.Statements }) }
+        ensures few { OnSome result (length self.old.closed < 32) }
+        ensures lawful { IfSome result (λ s. IsScheduled self.old.tensors s) }
+        ensures none { IfNone result (self.new ≡ self.old) }
     {
-        self.stmts.push(stmt)?;
-        self.phase = Phase::Open;
+        match mem::replace(&mut self.phase, Phase::Statements) {
+            Phase::Open(scheduled) => Some(scheduled),
+            other => {
+                self.phase.enter(other);
+                None
+            }
+        }
+    }
+
+    /// Opens a statement.
+    pub fn open(&mut self, scheduled: Scheduled)
+        requires machine { knows_machine self.old.phase ≡ true }
+        requires few { length self.old.closed < 32 }
+        requires lawful { IsScheduled self.old.tensors scheduled }
+        ensures { self.new ≡ record self.old { phase = phases.Open scheduled } }
+    {
+        self.phase.enter(Phase::Open(scheduled));
+    }
+
+    /// One more closed statement. Want of memory loses it.
+    pub fn close(&mut self, scheduled: Scheduled) -> Result<(), NoMemory>
+        requires machine { knows_machine self.old.phase ≡ true }
+        requires few { length self.old.closed < 32 }
+        requires lawful { IsScheduled self.old.tensors scheduled }
+        ensures ok { OnOk result (self.new ≡ record self.old { closed = self.old.closed ++ scheduled ∷ []; phase = phases.Statements }) }
+    {
+        self.phase.enter(Phase::Statements);
+        self.closed.push(scheduled)?;
         Ok(())
     }
 
     /// One more output.
     pub fn show(&mut self, show: Show) -> Result<(), NoMemory>
-        requires machine { knows_machine self.old.phase ≡ true }
+        requires late { takes_output self.old.phase ≡ true }
         requires tensor { ShowsBelow (length self.old.tensors) show }
         ensures ok { OnOk result (self.new ≡ record self.old { shows = self.old.shows ++ show ∷ []; phase = phases.Outputs }) }
         ensures err { OnErr result (self.new ≡ self.old) }
     {
         self.shows.push(show)?;
-        self.phase = Phase::Outputs;
+        self.phase.enter(Phase::Outputs);
         Ok(())
     }
 
     /// The job that the lines say.
     pub fn into_job(self, alloc: Global) -> Result<Job, NoMemory>
-        requires { knows_machine self.phase ≡ true }
+        requires { is_whole self.phase ≡ true }
         ensures job { IfOk result (λ j. option_map (job_on self) self.machine ≡ Some j) }
         ensures lawful { IfOk result IsJob }
     {
         let Draft {
             machine,
+            names,
             tensors: declared,
-            stmts,
+            closed,
             shows,
-            phase: _,
+            phase,
         } = self;
+        mem::drop(phase);
         let machine = machine.unwrap();
-        let mut names = Vec::new(alloc);
         let mut tensors = Vec::new(alloc);
         let mut places = Vec::new(alloc);
-        for (name, declared) in declared {
+        for (_name, declared) in declared {
             let (tensor, placement) = declared.into_parts(alloc)?;
-            names.push(name)?;
             tensors.push(tensor)?;
             places.push(placement)?;
         }
+        let (stmts, heads, parts) = separated(alloc, closed)?;
         Ok(Job {
             machine,
-            names: Names::from_vec(names),
+            names,
             tensors: Tensors::from_list(tensors),
             places: Places::from_vec(places),
             stmts,
+            heads,
+            parts,
             shows,
         })
     }
+}
+
+/// One more tensor, with its name in both places, or none in either.
+fn add(
+    names: &mut Names,
+    tensors: &mut IndexMap<Name, Declared>,
+    name: Name,
+    declared: Declared,
+) -> Result<(), NoMemory>
+    requires { place_of name (known_of tensors.old.entries) ≡ None }
+    ensures names { OnOk result (names.new ≡ names.old ++ name ∷ []) }
+    ensures tensors { OnOk result (tensors.new.entries ≡ tensors.old.entries ++ (name, declared) ∷ []) }
+    ensures differ { OnOk result (IsDistinct bytes_eq (names_of tensors.new.entries)) }
+    ensures err_names { OnErr result (names.new ≡ names.old) }
+    ensures err_tensors { OnErr result (tensors.new.entries ≡ tensors.old.entries) }
+{
+    names.items.reserve(1)?;
+    tensors.insert(name.copied(), declared)?;
+    names.items.push_reserved(name);
+    Ok(())
 }
 
 impl Lookup for Draft {
@@ -259,5 +359,39 @@ impl Lookup for Draft {
 
     fn dense(&self, _tensor: u32) -> bool {
         true
+    }
+}
+
+impl Locator for Draft {
+    ghost use Rattle.dt_job.specs.Contents.{stored_of_all};
+
+    ghost tensors = { λ d. stored_of_all d.tensors };
+
+    fn place(&self, tensor: u32, c: &[u32]) -> Option<u32> {
+        self.levels(tensor).place(c)
+    }
+
+    fn coords(&self, tensor: u32, pos: u32) -> Coords {
+        self.levels(tensor).coords(*self.closed.allocator(), pos)
+    }
+
+    fn count(&self, tensor: u32) -> u32 {
+        self.levels(tensor).count()
+    }
+
+    fn has_prefix(&self, tensor: u32, c: &[u32]) -> bool {
+        self.levels(tensor).has_prefix(c)
+    }
+
+    fn shape(&self, tensor: u32) -> Shape {
+        self.levels(tensor).shape()
+    }
+
+    fn cost(&self, tensor: u32) -> u32 {
+        self.levels(tensor).cost()
+    }
+
+    fn next_child(&self, tensor: u32, prefix: &[u32], from: u32) -> Option<u32> {
+        self.levels(tensor).next_child(prefix, from)
     }
 }

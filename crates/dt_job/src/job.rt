@@ -1,13 +1,14 @@
 //! A whole job.
 
 use crate::outputs::Shows;
-use dt_base::Names;
+use crate::parts::Parts;
+use dt_base::{Lines, Names};
 use dt_model::Stmts;
 use dt_place::{Machine, Places};
 use dt_tensor::Tensors;
 
 /// A job that was read: the machine, and in the order of the text the tensors' names, the tensors as they are given, a
-/// placement for each of them, the statements and the outputs.
+/// placement for each of them, the statements, their texts as they are printed, their parts, and the outputs.
 #[derive(Debug, Drop)]
 pub struct Job {
     pub machine: Machine,
@@ -15,5 +16,7 @@ pub struct Job {
     pub tensors: Tensors,
     pub places: Places,
     pub stmts: Stmts,
+    pub heads: Lines,
+    pub parts: Parts,
     pub shows: Shows,
 }

@@ -1,24 +1,27 @@
 //! Lines, one kind after another.
 
-ghost use Rattle.std.specs.Prelude.{◌≡◌, ◌≤◌, ◌<◌, ◌^◌, ◌-◌, ◌&&◌, All, IfOk, length, map, slice_range};
+ghost use Rattle.std.specs.Prelude.{◌≡◌, ◌≤◌, ◌<◌, ◌^◌, ◌-◌, ◌&&◌, All, IfOk, length, map, slice_range, true};
 ghost use Rattle.std.specs.Bool.{OnTrue};
 ghost use Rattle.std.specs.List.{list_all};
 ghost use Rattle.dt_text.specs.Names.{is_name};
 ghost use Rattle.dt_text.specs.Numbers.{is_numeral};
 ghost use Rattle.dt_text.specs.Spans.{IsToken, token_in};
 ghost use Rattle.dt_model.specs.Steps.{Gives};
-ghost use Rattle.dt_job.specs.Lines.{bytes_line, data_line, declared_in, distal_line, end_line, fill_line, fill_of, filled_in, line_end_of, machine_line, numbers_line, place_line, place_to_give, place_to_set, print_line, stmt_line, tensor_line, words_line};
+ghost use Rattle.dt_job.specs.Phases.{takes_declaration};
+ghost use Rattle.dt_job.specs.Lines.{bytes_line, data_line, declared_in, distal_line, end_line, fill_line, fill_of, filled_in, is_command, line_end_of, machine_line, numbers_line, place_line, place_to_give, place_to_set, print_line, schedule_line, stmt_line, tensor_line, words_line};
 
 use crate::draft::Draft;
 use crate::fills::Fill;
 use crate::numerals::{are_all_numerals, are_numerals, read_numbers, read_numeral};
 use crate::outputs::Show;
-use crate::phases::Phase;
+use crate::scheduled::Scheduled;
 use crate::shapes::{are_dense_letters, extent_words, level_words, shape_of};
 use dt_base::Name;
 use dt_index::parse_stmt;
 use dt_model::{Cause, LineEnd};
+use dt_nest::RewriteEnd;
 use dt_place::{parse_machine, read_place, resolve_place};
+use dt_schedule::run_command;
 use dt_text::{Line, TextEnd, Token, after_word, is_name, tokens, word};
 use std::alloc::Global;
 
@@ -36,7 +39,7 @@ fn read_distal(draft: &mut Draft, text: &[u8], tokens: &[Token]) -> Result<(), L
             if read_numeral(word(text, *version))? != 1 {
                 return Err(LineEnd::Refused(Cause::Version));
             }
-            draft.enter(Phase::Machine);
+            draft.begin();
             Ok(())
         }
         _ => Err(LineEnd::Refused(Cause::Syntax)),
@@ -113,7 +116,8 @@ fn names_extents(name: &[u8], shape: &[u8], words: &[Token]) -> bool
 /// A tensor with this name, these extents, and this many level letters.
 #[tactic(auto, unfolding(crate::specs::Lines::declared_in))]
 fn declare(draft: &mut Draft, name: &[u8], extents: &[u64], letters: usize) -> Result<(), LineEnd>
-    requires { length name.now ≤ 16 }
+    requires early { takes_declaration draft.old.phase ≡ true }
+    requires short { length name.now ≤ 16 }
     ensures { Gives (λ _. draft.new) result (declared_in draft.old name.now extents.now letters) }
 {
     if draft.place(name).is_some() {
@@ -210,7 +214,8 @@ fn read_data(alloc: Global, draft: &mut Draft, text: &[u8], tokens: &[Token]) ->
 /// These numbers for the tensor with this name.
 #[tactic(auto, unfolding(crate::specs::Lines::numbers_line))]
 fn give_numbers(draft: &mut Draft, name: &[u8], numbers: Vec<u64>) -> Result<(), LineEnd>
-    requires { length name.now ≤ 16 }
+    requires early { takes_declaration draft.old.phase ≡ true }
+    requires short { length name.now ≤ 16 }
     ensures { Gives (λ _. draft.new) result (numbers_line draft.old name.now numbers.items) }
 {
     let at = place_to_give(draft, name)?;
@@ -270,7 +275,8 @@ fn read_kind(text: &[u8], tokens: &[Token]) -> Result<Fill, LineEnd>
 /// What a fill gives for the tensor with this name.
 #[tactic(auto, unfolding(crate::specs::Lines::filled_in))]
 fn give_fill(alloc: Global, draft: &mut Draft, name: &[u8], fill: Fill) -> Result<(), LineEnd>
-    requires { length name.now ≤ 16 }
+    requires early { takes_declaration draft.old.phase ≡ true }
+    requires short { length name.now ≤ 16 }
     ensures { Gives (λ _. draft.new) result (filled_in draft.old name.now fill) }
 {
     let at = place_to_give(draft, name)?;
@@ -287,12 +293,52 @@ fn read_stmt(alloc: Global, draft: &mut Draft, text: &[u8]) -> Result<(), LineEn
     if !draft.phase().takes_stmt() {
         return Err(LineEnd::Refused(Cause::OutOfPlace));
     }
-    let (stmt, _) = parse_stmt(alloc, text, draft)?;
-    if draft.stmt_count() >= 32 {
+    let (stmt, vars) = parse_stmt(alloc, text, draft)?;
+    if draft.closed_count() >= 32 {
         return Err(LineEnd::Refused(Cause::TooManyStatements));
     }
-    draft.state(stmt)?;
+    let scheduled = Scheduled::new(alloc, stmt, &vars, draft.names())?;
+    draft.open(scheduled);
     Ok(())
+}
+
+/// Whether a word begins a command.
+fn is_command(word: &[u8]) -> bool
+    ensures { result ≡ is_command word.now }
+{
+    word == b"split".as_slice()
+        || word == b"divide".as_slice()
+        || word == b"reorder".as_slice()
+        || word == b"collapse".as_slice()
+        || word == b"rotate".as_slice()
+        || word == b"distribute".as_slice()
+        || word == b"communicate".as_slice()
+}
+
+/// A command line: the open statement gets another schedule, or keeps the one it has where the command is refused.
+#[tactic(auto, unfolding(crate::specs::Lines::schedule_line))]
+fn read_schedule(alloc: Global, draft: &mut Draft, text: &[u8]) -> Result<(), LineEnd>
+    requires { length text.now < 2 ^ 32 - 1 }
+    ensures { Gives (λ _. draft.new) result (schedule_line draft.old text.now) }
+{
+    let Some(open) = draft.take_open() else {
+        return Err(LineEnd::Refused(Cause::OutOfPlace));
+    };
+    let Scheduled { stmt, head, sched } = open;
+    match run_command(alloc, sched, text, draft.grid(), draft, draft.names()) {
+        Ok(sched) => {
+            draft.open(Scheduled { stmt, head, sched });
+            Ok(())
+        }
+        Err(RewriteEnd::Illegal(sched, cause)) => {
+            draft.open(Scheduled { stmt, head, sched });
+            Err(LineEnd::Refused(cause))
+        }
+        Err(RewriteEnd::NoMemory(sched)) => {
+            draft.open(Scheduled { stmt, head, sched });
+            Err(LineEnd::NoMemory)
+        }
+    }
 }
 
 /// `end`
@@ -300,15 +346,18 @@ fn read_stmt(alloc: Global, draft: &mut Draft, text: &[u8]) -> Result<(), LineEn
 fn read_end(draft: &mut Draft, text: &[u8], tokens: &[Token]) -> Result<(), LineEnd>
     ensures { Gives (λ _. draft.new) result (end_line draft.old (map (token_in text.now) tokens.now)) }
 {
-    if !draft.phase().takes_end() {
+    let Some(closed) = draft.take_open() else {
         return Err(LineEnd::Refused(Cause::OutOfPlace));
-    }
+    };
     match tokens {
         [] => {
-            draft.enter(Phase::Statements);
+            draft.close(closed)?;
             Ok(())
         }
-        _ => Err(LineEnd::Refused(Cause::Syntax)),
+        _ => {
+            draft.open(closed);
+            Err(LineEnd::Refused(Cause::Syntax))
+        }
     }
 }
 
@@ -337,19 +386,19 @@ fn read_print(draft: &mut Draft, text: &[u8], tokens: &[Token]) -> Result<(), Li
     }
 }
 
-/// A line by its first word; `rest` is what stands behind that word.
+/// A line by its first word; `plain` is the line's bytes.
 #[tactic(auto, unfolding(crate::specs::Lines::words_line))]
 fn read_words(
     alloc: Global,
     draft: &mut Draft,
     text: &[u8],
-    rest: &[u8],
+    plain: &[u8],
     tokens: &[Token],
 ) -> Result<(), LineEnd>
     requires fits { length text.now < 2 ^ 32 - 1 }
-    requires rest { length rest.now < 2 ^ 32 - 1 }
+    requires plain { length plain.now < 2 ^ 32 - 1 }
     requires tokens { All (IsToken (length text.now)) tokens.now }
-    ensures { Gives (λ _. draft.new) result (words_line draft.old rest.now (map (token_in text.now) tokens.now)) }
+    ensures { Gives (λ _. draft.new) result (words_line draft.old plain.now (map (token_in text.now) tokens.now)) }
 {
     match tokens {
         [] => Ok(()),
@@ -358,21 +407,23 @@ fn read_words(
             if first == b"distal".as_slice() {
                 read_distal(draft, text, behind)
             } else if first == b"machine".as_slice() {
-                read_machine(alloc, draft, rest)
+                read_machine(alloc, draft, after_word(plain))
             } else if first == b"tensor".as_slice() {
                 read_tensor(alloc, draft, text, behind)
             } else if first == b"place".as_slice() {
-                read_placement(alloc, draft, rest)
+                read_placement(alloc, draft, after_word(plain))
             } else if first == b"data".as_slice() {
                 read_data(alloc, draft, text, behind)
             } else if first == b"fill".as_slice() {
                 read_fill(alloc, draft, text, behind)
             } else if first == b"stmt".as_slice() {
-                read_stmt(alloc, draft, rest)
+                read_stmt(alloc, draft, after_word(plain))
             } else if first == b"end".as_slice() {
                 read_end(draft, text, behind)
             } else if first == b"print".as_slice() {
                 read_print(draft, text, behind)
+            } else if is_command(first) {
+                read_schedule(alloc, draft, plain)
             } else {
                 Err(LineEnd::Refused(Cause::UnknownWord))
             }
@@ -402,6 +453,5 @@ pub fn read_line(alloc: Global, draft: &mut Draft, text: &[u8], line: Line) -> R
         Ok(tokens) => tokens,
         Err(end) => return Err(line_end(end)),
     };
-    let rest = after_word(line.plain(text));
-    read_words(alloc, draft, text, rest, tokens.as_slice())
+    read_words(alloc, draft, text, line.plain(text), tokens.as_slice())
 }

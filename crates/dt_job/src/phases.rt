@@ -1,11 +1,13 @@
 //! Which lines may come when.
 
-ghost use Rattle.std.specs.Prelude.{◌≡◌, true, false};
+ghost use Rattle.std.specs.Prelude.{◌≡◌, true};
 ghost use Rattle.std.specs.Bool.{OnTrue};
-ghost use Rattle.dt_job.specs.Phases.{is_whole, knows_machine, takes_declaration, takes_distal, takes_end, takes_machine, takes_output, takes_stmt};
+ghost use Rattle.dt_job.specs.Phases.{is_whole, knows_machine, takes_declaration, takes_distal, takes_machine, takes_output, takes_stmt};
+
+use crate::scheduled::Scheduled;
 
 /// Where the reading of a job stands.
-#[derive(Clone, Copy, Debug, PartialEq, Eq)]
+#[derive(Debug, Drop)]
 pub enum Phase {
     /// No line is read.
     Version,
@@ -13,8 +15,8 @@ pub enum Phase {
     Machine,
     /// The machine is known, and no statement or output is read.
     Declarations,
-    /// A statement is open.
-    Open,
+    /// This statement is open.
+    Open(Scheduled),
     /// The last statement is closed.
     Statements,
     /// An output is read.
@@ -22,44 +24,41 @@ pub enum Phase {
 }
 
 impl Phase {
-    pub fn takes_distal(self) -> bool
-        ensures value { result ≡ takes_distal self }
-        ensures known { OnTrue result (knows_machine self ≡ false) }
+    /// Goes on to another phase.
+    pub fn enter(&mut self, next: Phase)
+        ensures { self.new ≡ next }
+    {
+        *self = next;
+    }
+
+    pub fn takes_distal(&self) -> bool
+        ensures { result ≡ takes_distal self.now }
     {
         matches!(self, Phase::Version)
     }
 
-    pub fn takes_machine(self) -> bool
-        ensures value { result ≡ takes_machine self }
-        ensures known { OnTrue result (knows_machine self ≡ false) }
+    pub fn takes_machine(&self) -> bool
+        ensures { result ≡ takes_machine self.now }
     {
         matches!(self, Phase::Machine)
     }
 
     /// Whether a line `tensor`, `place`, `data` or `fill` may come.
-    pub fn takes_declaration(self) -> bool
-        ensures { result ≡ takes_declaration self }
+    pub fn takes_declaration(&self) -> bool
+        ensures { result ≡ takes_declaration self.now }
     {
         matches!(self, Phase::Declarations)
     }
 
-    pub fn takes_stmt(self) -> bool
-        ensures value { result ≡ takes_stmt self }
-        ensures known { OnTrue result (knows_machine self ≡ true) }
+    pub fn takes_stmt(&self) -> bool
+        ensures value { result ≡ takes_stmt self.now }
+        ensures known { OnTrue result (knows_machine self.now ≡ true) }
     {
         matches!(self, Phase::Declarations | Phase::Statements)
     }
 
-    pub fn takes_end(self) -> bool
-        ensures value { result ≡ takes_end self }
-        ensures known { OnTrue result (knows_machine self ≡ true) }
-    {
-        matches!(self, Phase::Open)
-    }
-
-    pub fn takes_output(self) -> bool
-        ensures value { result ≡ takes_output self }
-        ensures known { OnTrue result (knows_machine self ≡ true) }
+    pub fn takes_output(&self) -> bool
+        ensures { result ≡ takes_output self.now }
     {
         matches!(
             self,
@@ -68,9 +67,8 @@ impl Phase {
     }
 
     /// Whether the job may end here.
-    pub fn is_whole(self) -> bool
-        ensures value { result ≡ is_whole self }
-        ensures known { OnTrue result (knows_machine self ≡ true) }
+    pub fn is_whole(&self) -> bool
+        ensures { result ≡ is_whole self.now }
     {
         matches!(
             self,

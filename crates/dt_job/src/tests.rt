@@ -215,7 +215,7 @@ fn the_first_line_with_a_cause_is_told(rt: HostRuntime) -> Result<(), Fail> {
         (8, 8, b"end\n", 8, Fault::OutOfPlace),
         (9, 9, b"print A\n", 9, Fault::OutOfPlace),
         (9, 9, b"stmt A(i,j) = B(i,j)\n", 9, Fault::OutOfPlace),
-        (9, 9, b"split i io ii 2\n", 9, Fault::UnknownWord),
+        (9, 9, b"entries A 0,0=1\n", 9, Fault::UnknownWord),
         (9, 9, b"end 1\n", 9, Fault::Syntax),
         (9, 9, b"end\nend\n", 10, Fault::OutOfPlace),
         (9, 9, b"end\ntensor D 2\n", 10, Fault::OutOfPlace),

@@ -1,42 +1,50 @@
-use Rattle.std.proofs.Common.{◌≡◌, All, List, Some, subst, sym, ap, ◌∙◌}
-use Rattle.std.specs.List.{IsDistinct}
-use Rattle.std.specs.Str.{bytes_eq}
+use Rattle.std.proofs.Common.{◌≡◌, All, List, ℕ, map, Some, subst, sym, ap, ◌∙◌}
 use Rattle.dt_tensor.specs.Packed.{Packed}
-use Rattle.dt_job.specs.Contents.{names_of}
+use Rattle.dt_job.specs.Contents.{Content, names_of, placement_of, tensor_of}
 use Rattle.dt_job.specs.contracts.draft.Draft.{the_view}
-use Rattle.dt_job.specs.Drafts.{DraftView, IsDraft}
+use Rattle.dt_job.specs.Drafts.{DraftView, IsDraft, part_of}
 use Rattle.dt_job.specs.Jobs.{IsJobTensor}
 use Rattle.dt_job.specs.Read.{job_on}
 use Rattle.dt_job.specs.declared.job.Job.{Job}
-use Rattle.dt_job.proofs.ContentFacts.{job_of_draft, lawful_job, lawful_more, machine_known, made_job, names_more, places_more, tensors_more}
+use Rattle.dt_job.specs.declared.scheduled.Scheduled.{Scheduled}
+use Rattle.dt_job.proofs.ContentFacts.{job_of_draft, lawful_job, lawful_more, machine_known, made_job}
+use Rattle.dt_job.proofs.PhaseFacts.{whole_phase}
+use Rattle.dt_job.proofs.Separating.{mapped_more}
 use Rattle.dt_job.proofs.draft.Draft.into_job.Goals as goal
 
 pub unwrap-machine-requires : goal.unwrap-machine-requires
 unwrap-machine-requires c =
-    machine_known (the_view c.self.inside) c.args.self c.self.invariant c.self.view_is c.requires
+    machine_known (the_view c.self.inside) c.args.self c.self.invariant.0 c.self.view_is (whole_phase c.args.self.phase c.requires)
 
 pub loop-name-preserved : goal.loop-name-preserved
 loop-name-preserved c = record {
-  names = names_more c.loop-name.names.items c.push.new.self.items _ c.in-Some.name c.in-Some.declared c.loop-name.name-iterator c.next.new.self c.in_ok-push.ensures.items c.in-Some.ensures.steps c.loop-name.invariant.names;
-  places = places_more c.loop-name.places.items c.push-in-loop-name-2.new.self.items _ c.in_ok-tensor.placement c.in-Some.name c.in-Some.declared c.loop-name.name-iterator c.next.new.self c.in_ok-push-3.ensures.items c.in_ok-tensor.ensures.placement c.in-Some.ensures.steps c.loop-name.invariant.places;
-  tensors = tensors_more c.loop-name.tensors.items c.push-in-loop-name.new.self.items _ c.in_ok-tensor.tensor c.in-Some.name c.in-Some.declared c.loop-name.name-iterator c.next.new.self c.in_ok-push-2.ensures.items c.in_ok-tensor.ensures.tensor c.in-Some.ensures.steps c.loop-name.invariant.tensors;
-  lawful = lawful_more c.loop-name.tensors.items c.push-in-loop-name.new.self.items c.in_ok-tensor.tensor c.in_ok-push-2.ensures.items c.loop-name.invariant.lawful c.in_ok-tensor.ensures.lawful;
+  places = mapped_more (λ (t : List ℕ × Content). placement_of t.1) c.loop-name.places.items c.push-in-loop-name.new.self.items _ (c.in-Some._name, c.in-Some.declared) c.in_ok-tensor.placement c.loop-name._name-iterator c.next.new.self c.in_ok-push-2.ensures.items c.in_ok-tensor.ensures.placement c.in-Some.ensures.steps c.loop-name.invariant.places;
+  tensors = mapped_more (λ (t : List ℕ × Content). tensor_of t.1) c.loop-name.tensors.items c.push.new.self.items _ (c.in-Some._name, c.in-Some.declared) c.in_ok-tensor.tensor c.loop-name._name-iterator c.next.new.self c.in_ok-push.ensures.items c.in_ok-tensor.ensures.tensor c.in-Some.ensures.steps c.loop-name.invariant.tensors;
+  lawful = lawful_more c.loop-name.tensors.items c.push.new.self.items c.in_ok-tensor.tensor c.in_ok-push.ensures.items c.loop-name.invariant.lawful c.in_ok-tensor.ensures.lawful;
 }
 
-pub returns : goal.returns
-returns c =
-    let D : DraftView → Type 0 = λ d. IsDistinct bytes_eq (names_of d.tensors) in
+known : (c : goal.After-from_vec) → c.args.self.machine ≡ Some c.unwrap-machine.result
+known c = ap (λ (d : DraftView). d.machine) (sym c.self.view_is) ∙ c.unwrap-machine.ensures
+
+job : goal.After-from_vec → Job
+job c = record { machine = c.unwrap-machine.result; names = c.self.inside.names; tensors = c.from_list.result; places = c.from_vec.result; stmts = c.in_ok-stmts.stmts; heads = c.in_ok-stmts.heads; parts = c.in_ok-stmts.parts; shows = c.self.inside.shows }
+
+made : (c : goal.After-from_vec) → job c ≡ job_on c.args.self c.unwrap-machine.result
+unfolding job
+made c =
+    made_job c.args.self c.unwrap-machine.result (job c) c.loop-name.tensors.items c.loop-name.places.items c.loop-name._name-iterator
+    (λ i. c.unwrap-machine.result) (c.self.invariant.1 ∙ ap (λ (d : DraftView). names_of d.tensors) c.self.view_is) c.from_list.ensures c.from_vec.ensures
+    (c.in_ok-stmts.ensures.stmts ∙ ap (λ (d : DraftView). map (λ (s : Scheduled). s.stmt) d.closed) c.self.view_is)
+    (c.in_ok-stmts.ensures.heads ∙ ap (λ (d : DraftView). map (λ (s : Scheduled). s.head) d.closed) c.self.view_is)
+    (c.in_ok-stmts.ensures.parts ∙ ap (λ (d : DraftView). map part_of d.closed) c.self.view_is)
+    (ap (λ (d : DraftView). d.shows) c.self.view_is) c.in-None.ensures.steps.0 c.loop-name.invariant.tensors c.loop-name.invariant.places
+
+pub returns-clause-job : goal.returns-clause-job
+unfolding job
+returns-clause-job c = job_of_draft c.args.self c.unwrap-machine.result (job c) (known c) (made c)
+
+pub returns-clause-lawful : goal.returns-clause-lawful
+unfolding job
+returns-clause-lawful c =
     let A : List Packed → Type 0 = λ ts. All IsJobTensor ts in
-    let j : Job = record { machine = c.unwrap-machine.result; names = c.from_vec.result; tensors = c.from_list.result; places = c.from_vec-2.result; stmts = c.self.inside.stmts; shows = c.self.inside.shows } in
-    let known : c.args.self.machine ≡ Some c.unwrap-machine.result = ap (λ (d : DraftView). d.machine) (sym c.self.view_is) ∙ c.unwrap-machine.ensures in
-    let made : j ≡ job_on c.args.self c.unwrap-machine.result =
-    made_job c.args.self c.unwrap-machine.result j c.loop-name.names.items c.loop-name.tensors.items c.loop-name.places.items c.loop-name.name-iterator
-    (λ i. c.unwrap-machine.result) c.from_vec.ensures c.from_list.ensures c.from_vec-2.ensures (ap (λ (d : DraftView). d.stmts) c.self.view_is) (ap (λ (d : DraftView). d.shows) c.self.view_is)
-    c.in-None.ensures.steps.0 c.loop-name.invariant.names c.loop-name.invariant.tensors c.loop-name.invariant.places in
-    record {
-      job = job_of_draft c.args.self c.unwrap-machine.result j known made;
-      lawful = lawful_job c.args.self c.unwrap-machine.result j made known
-          (subst IsDraft c.self.view_is c.self.invariant)
-          (subst D c.self.view_is c.into_iter-name-iterator.ensures.into_iter_gives.4)
-          (subst A (sym c.from_list.ensures) c.loop-name.invariant.lawful);
-    }
+    lawful_job c.args.self c.unwrap-machine.result (job c) (made c) (known c) (subst IsDraft c.self.view_is c.self.invariant.0) (subst A (sym c.from_list.ensures) c.loop-name.invariant.lawful)
