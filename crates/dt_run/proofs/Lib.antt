@@ -1,13 +1,11 @@
-pub mod Assignments
-pub mod Counts
-pub mod Effects
 pub mod Fronts
+pub mod GivenTensors
 pub mod Joins
+pub mod OverStored
+pub mod PartRuns
 pub mod Parts
-pub mod Pushes
 pub mod RowFacts
 pub mod Runs
-pub mod SmallStmts
 pub mod VisitFacts
 pub mod VisitLeaves
 pub mod VisitSteps

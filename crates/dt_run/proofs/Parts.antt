@@ -1,23 +1,21 @@
 -- A part of a job makes of the tensors what its statement means.
-use Rattle.std.proofs.Common.{◌≡◌, ℕ, zero, suc, ◌+◌, ◌%◌, ◌^◌, ◌<◌, Bool, true, false, List, [], ◌∷◌, length, get_or, map, replicate, Option, Some, None, Result, is_some, inl, inr, refl, sym, ap, ◌∙◌, subst, arith, slice_get, slice_set, unwrap_or, option_map}
+use Rattle.std.proofs.Common.{◌≡◌, ℕ, ◌+◌, ◌%◌, ◌^◌, ◌<◌, Bool, true, false, List, [], length, get_or, map, replicate, Option, Some, None, Result, is_some, refl, sym, ap, ◌∙◌, subst, arith, slice_get, slice_set, unwrap_or, option_map}
 use Rattle.std.specs.Prelude.{OnOk, Ok, Err, if◌then◌else◌}
-use Rattle.std.specs.List.{AllByRecursion}
 use Rattle.std.specs.Option.{option_and_then}
 use Rattle.std.proofs.Math.Nat.{mod-mod}
-use Rattle.std.proofs.Math.Seq.{map-set_same}
-use Rattle.std.proofs.lemmas.Bool.{cases_eq}
-use Rattle.std.proofs.lemmas.List.{length-map, length-set, length-replicate, get_or-map, same_lists, set-set}
-use Rattle.std.proofs.lemmas.Option.{slice_get-get_or, slice_get-map, unwrap_or-slice_get, same_Some}
+use Rattle.std.proofs.lemmas.List.{length-map, length-replicate, get_or-map, same_lists, set-set}
+use Rattle.std.proofs.lemmas.Option.{slice_get-get_or, slice_get-map, unwrap_or-slice_get}
 use Rattle.dt_base.specs.Ranges.{assignments}
 use Rattle.dt_base.specs.Rows.{product, row_major}
 use Rattle.dt_model.specs.Ring.{ring_add}
-use Rattle.dt_model.specs.WholeTensor.{WholeTensor, number_at, zero_tensor, IsWhole}
-use Rattle.dt_model.specs.Positions.{StoredTensor, place_in, tensor_at}
+use Rattle.dt_model.specs.WholeTensor.{WholeTensor, number_at, zero_tensor}
+use Rattle.dt_model.specs.Positions.{StoredTensor}
 use Rattle.dt_model.specs.Stmts.{shapes_of, IsIndex}
 use Rattle.dt_model.specs.Value.{number_after, left_after, tensors_after, value_of}
 use Rattle.dt_model.specs.declared.stmt.Stmt.{Stmt}
 use Rattle.dt_nest.specs.Tree.{Tree, Loop, Pre, Leaf}
 use Rattle.dt_nest.specs.Schedule.{Schedule}
+use Rattle.dt_nest.specs.FitsStored.{fits_stored}
 use Rattle.dt_nest.specs.World.{world_of, entries_of, sum_of}
 use Rattle.dt_nest.specs.Lawful.{IsNamed, IsLawful}
 use Rattle.dt_nest.specs.Outputs.{output_of, reads_of}
@@ -25,6 +23,7 @@ use Rattle.dt_nest.proofs.Congruence.{like_same, is_read, reads_free, nest_sum-l
 use Rattle.dt_nest.proofs.OwnSlots.{zero_at}
 use Rattle.dt_tensor.proofs.Assignments.{length-assignments, row_major-assignment}
 use Rattle.dt_run.specs.Visiting.{IsRunnable, IsStmtOf, left_with_sum, tensors_with_sum, tensors_cleared}
+use Rattle.dt_run.proofs.OverStored.{fits_over, over_fitting, set_shapes, set_over}
 use Rattle.dt_run.proofs.WholeSets.{slice_get-set_same, slice_get-set_other}
 
 -- what holds where a value is there
@@ -42,11 +41,6 @@ tables_agree f g ns h =
     get_or-map f (assignments ns) k [] d room ∙ h (get_or (assignments ns) k []) k (row_major-assignment ns k small) ∙ sym (get_or-map g (assignments ns) k [] d room))
 
 -- Tensors with zeros in one of them --------------------------------------------------------------------------------------
-
-all_set : (P : WholeTensor → Type 0) (ts : List WholeTensor) (t : ℕ) (x : WholeTensor) → P x → AllByRecursion P ts → AllByRecursion P (slice_set ts t x)
-all_set P [] t x h a = tt
-all_set P (y ∷ ts) zero x h a = (h, a.1)
-all_set P (y ∷ ts) (suc t) x h a = (a.0, all_set P ts t x h a.1)
 
 module _ (ts : List WholeTensor) (t : ℕ) (left : WholeTensor) (found : slice_get ts t ≡ Some left) (inside : t < length ts) where
   abbrev Cleared : List WholeTensor
@@ -68,16 +62,8 @@ module _ (ts : List WholeTensor) (t : ℕ) (left : WholeTensor) (found : slice_g
   cleared_there : slice_get Cleared t ≡ Some (zero_tensor left.extents)
   cleared_there = slice_get-set_same ts t (zero_tensor left.extents) inside
 
-  cleared_here : (c : List ℕ) → entries_of Cleared t c ≡ 0
-  cleared_here c = ap (λ (o : Option WholeTensor). unwrap_or (option_and_then (λ x. number_at x c) o) 0) cleared_there ∙ zero_number c
-
   cleared_apart : (u : ℕ) (c : List ℕ) → (u ≡ t → ⊥) → entries_of Cleared u c ≡ entries_of ts u c
   cleared_apart u c n = ap (λ (o : Option WholeTensor). unwrap_or (option_and_then (λ x. number_at x c) o) 0) (slice_get-set_other ts t u (zero_tensor left.extents) n)
-
-  cleared_shapes : shapes_of Cleared ≡ shapes_of ts
-  cleared_shapes =
-      let item : get_or ts t left ≡ left = same_Some (get_or ts t left) left (sym (slice_get-get_or ts t left inside) ∙ found) in
-      map-set_same (λ (x : WholeTensor). x.extents) ts t (zero_tensor left.extents) left (ap (λ (x : WholeTensor). x.extents) (sym item))
 
 -- tensors keep their shapes where one is cleared
 pub shapes_cleared : (ts : List WholeTensor) (t : ℕ) → t < length ts → shapes_of (tensors_cleared t ts) ≡ shapes_of ts
@@ -85,21 +71,13 @@ shapes_cleared ts t inside = go (slice_get ts t) refl
   where
     go : (o : Option WholeTensor) → slice_get ts t ≡ o → shapes_of (tensors_cleared t ts) ≡ shapes_of ts
     go None e = ap (λ (o : Option WholeTensor). shapes_of (unwrap_or (option_map (λ left. slice_set ts t (zero_tensor left.extents)) o) ts)) e
-    go (Some left) e = ap shapes_of (cleared_is ts t left e inside) ∙ cleared_shapes ts t left e inside
+    go (Some left) e = ap shapes_of (cleared_is ts t left e inside) ∙ set_shapes ts t left (zero_tensor left.extents) e refl
 
 -- a schedule runs on its tensors with zeros in one
 pub runs_cleared : (stored : List StoredTensor) (ts : List WholeTensor) (s : Schedule) (t : ℕ) → t < length ts → IsRunnable stored ts s → IsRunnable stored (tensors_cleared t ts) s
 runs_cleared stored ts s t inside r = subst (λ (l : List WholeTensor). IsRunnable stored l s) (sym (cleared_is ts t left found inside)) (record {
-  fits = record {
-    count = length-set ts t (zero_tensor left.extents) ∙ r.fits.count;
-    shapes = r.fits.shapes ∙ sym (cleared_shapes ts t left found inside);
-    whole = all_set IsWhole ts t (zero_tensor left.extents) (length-replicate (product left.extents) 0) r.fits.whole;
-    levels = r.fits.levels;
-    zeros = λ u c e. zeros u c e;
-    accesses = r.fits.accesses;
-    walks = r.fits.walks;
-    positions = r.fits.positions;
-  };
+  fits = fits_over stored (slice_set ts t (zero_tensor left.extents)) s (fits_stored stored ts s r.fits)
+      (set_over ts t left (zero_tensor left.extents) found refl stored (over_fitting stored ts s r.fits) (length-replicate (product left.extents) 0) (λ c e. zero_number ts t left found inside c));
   workless = r.workless;
   unread = r.unread;
 })
@@ -109,12 +87,6 @@ runs_cleared stored ts s t inside r = subst (λ (l : List WholeTensor). IsRunnab
 
     found : slice_get ts t ≡ Some left
     found = slice_get-get_or ts t (zero_tensor []) inside
-
-    zeros : (u : ℕ) (c : List ℕ) → place_in (tensor_at stored u) c ≡ None → entries_of (slice_set ts t (zero_tensor left.extents)) u c ≡ 0
-    zeros u c e = elim (cases_eq u t) [
-      | inl same ↦ ap (λ (v : ℕ). entries_of (slice_set ts t (zero_tensor left.extents)) v c) same ∙ cleared_here ts t left found inside c
-      | inr apart ↦ cleared_apart ts t left found inside u c apart ∙ r.fits.zeros u c e
-    ]
 
 -- Statements -------------------------------------------------------------------------------------------------------------
 

@@ -1,9 +1,7 @@
 -- What a run writes, put together.
-use Rattle.std.proofs.Common.{◌≡◌, ℕ, List, [], ◌∷◌, ◌++◌, map, refl, ap}
+use Rattle.std.proofs.Common.{◌≡◌, ℕ, List, ◌++◌, refl}
 use Rattle.std.specs.List.{flat_map}
 use Rattle.dt_model.specs.WholeTensor.{WholeTensor}
-use Rattle.dt_model.specs.Stmts.{shapes_of}
-use Rattle.dt_tensor.specs.Packed.{Packed, whole_of}
 use Rattle.dt_job.specs.declared.outputs.Show.{Show}
 use Rattle.dt_run.specs.Outcome.{show_text}
 
@@ -11,8 +9,3 @@ use Rattle.dt_run.specs.Outcome.{show_text}
 pub same_run : (front front' : List ℕ) (names names' : List (List ℕ)) (ts ts' : List WholeTensor) (shows shows' : List Show) → front ≡ front' → names ≡ names' → ts ≡ ts' → shows ≡ shows'
     → front ++ flat_map (show_text names ts) shows ≡ front' ++ flat_map (show_text names' ts') shows'
 same_run front front' names names' ts ts' shows shows' e f g h = rw (e, f, g, h) refl
-
--- the tensors as they are given have the shapes of the job's
-pub given_shapes : (ts : List Packed) → shapes_of (map whole_of ts) ≡ map (λ t. t.extents) ts
-given_shapes [] = refl
-given_shapes (t ∷ ts) = ap (λ (ns : List (List ℕ)). t.extents ∷ ns) (given_shapes ts)

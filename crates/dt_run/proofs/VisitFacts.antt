@@ -1,10 +1,11 @@
 -- What the answers of a run say of the visit where it stands.
-use Rattle.std.proofs.Common.{◌≡◌, ℕ, ◌+◌, ◌%◌, ◌^◌, ◌<◌, ◌≤◌, List, [], ◌∷◌, ◌++◌, length, take, get_or, map, sum_by, refl, ap, sym, subst, ◌∙◌, arith, Option, Some, None, IsSome}
-use Rattle.std.specs.Prelude.{MatchOption, slice_index, slice_set}
+use Rattle.std.proofs.Common.{◌≡◌, ℕ, ◌+◌, ◌*◌, ◌%◌, ◌^◌, ◌<◌, ◌≤◌, Bool, true, false, cond, List, [], ◌∷◌, ◌++◌, length, take, get_or, map, sum_by, refl, ap, sym, subst, ◌∙◌, arith, Option, Some, None, IsSome, option_map}
+use Rattle.std.specs.Prelude.{MatchOption, nat_lt, slice_index, slice_set}
+use Rattle.std.proofs.lemmas.Bool.{lt-ltb}
 use Rattle.std.proofs.lemmas.List.{take_more, take_more_set, take_all, map-append}
 use Rattle.std.proofs.lemmas.List.Sums.{sum_by_push}
 use Rattle.std.proofs.Math.Nat.{add-mod}
-use Rattle.dt_base.specs.Rows.{row_major}
+use Rattle.dt_base.specs.Rows.{product, row_major}
 use Rattle.dt_nest.specs.declared.derivations.Derived.{Derived}
 use Rattle.dt_nest.specs.declared.loops.Pair.{Pair}
 use Rattle.dt_nest.specs.Meaning.{World, Env}
@@ -12,7 +13,6 @@ use Rattle.dt_nest.specs.World.{world_of}
 use Rattle.dt_nest.specs.Visits.{Lanes, LeafVisit, Item, IsReset, IsVisit, value_in}
 use Rattle.dt_nest.specs.Run.{Run, OnVisit, IsValue, IsLaneValue}
 use Rattle.dt_run.specs.AtVisit.{visit_in, with_value, env_at}
-use Rattle.dt_run.proofs.Pushes.{row_major-push}
 
 -- what holds on a visit holds of the visit
 pub on_visit : (P : LeafVisit → Type 0) (last : Option Item) → OnVisit last P → P (visit_in last)
@@ -36,6 +36,25 @@ unfolding env_at
 lane_value_is r y u x h =
     lane_there (world_of r.stored r.sched) r.sched.derived (visit_in r.last).pairs (visit_in r.last).slots (visit_in r.last).lanes y u x
     (on_visit (λ visit. MatchOption visit.lanes ⊥ (λ l. x ≡ value_in (world_of r.stored r.sched) r.sched.derived visit.pairs (slice_set visit.slots l.var y) u)) r.last h)
+
+-- Coordinates ------------------------------------------------------------------------------------------------------------
+
+some_inside : (g h : ℕ → ℕ) (r s : Option ℕ) → (IsSome r → IsSome s) → IsSome (option_map g r) → IsSome (option_map h s)
+some_inside g h None s step k = cc
+some_inside g h (Some x) None step k = (let none : IsSome {T = ℕ} None = step refl in cc)
+some_inside g h (Some x) (Some y) step k = refl
+
+some_in_row : (b : Bool) (g h : ℕ → ℕ) (r s : Option ℕ) → (IsSome r → IsSome s) → IsSome (cond b (option_map g r) None) → IsSome (cond b (option_map h s) None)
+some_in_row true g h r s step k = some_inside g h r s step k
+some_in_row false g h r s step k = cc
+
+-- one more coordinate in range
+row_major-push : (ns xs : List ℕ) (n x : ℕ) → IsSome (row_major ns xs) → x < n → IsSome (row_major (ns ++ n ∷ []) (xs ++ x ∷ []))
+row_major-push [] [] n x h k = rw (lt-ltb x n k) refl
+row_major-push [] (y ∷ ys) n x h k = cc
+row_major-push (m ∷ ms) [] n x h k = cc
+row_major-push (m ∷ ms) (y ∷ ys) n x h k =
+    some_in_row (nat_lt y m) (λ j. y * product ms + j) (λ j. y * product (ms ++ n ∷ []) + j) (row_major ms ys) (row_major (ms ++ n ∷ []) (ys ++ x ∷ [])) (λ i. row_major-push ms ys n x i k) h
 
 -- one more coordinate
 pub coordinates_more : (env : Env) (vars c : List ℕ) (i x : ℕ) → i < length vars → i < length c → x ≡ env (get_or vars i 0) → take i c ≡ map env (take i vars)

@@ -48,7 +48,7 @@ input_limit = 16777216
 -- a job within the limits is run
 abbrev pub outcome_of_job : Job → Outcome
 outcome_of_job j =
-    if has_too_many_visits j.stmts then record { status = status.Refused; text = refused_plan_text (codes "TooManyVisits") }
+    if has_too_many_visits j.parts then record { status = status.Refused; text = refused_plan_text (codes "TooManyVisits") }
     else record { status = status.Done; text = run_text j }
 
 -- a line that has a cause is refused

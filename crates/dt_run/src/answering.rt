@@ -9,8 +9,8 @@ ghost use Rattle.dt_run.specs.Outcome.{given_of, outcome_of_job, outcome_of_read
 
 use crate::limits::has_too_many_visits;
 use crate::refusal::{refused_line, refused_visits};
+use crate::running::run_parts;
 use crate::short_text::ShortText;
-use crate::statements::run_statements;
 use crate::tensor_text::put_tensor;
 use dt_base::{Bytes, Name, NoMemory};
 use dt_job::{Job, JobEnd, Show, read_job};
@@ -41,7 +41,7 @@ fn answer_to_job(alloc: Global, job: &Job) -> Result<Answer, NoMemory>
     requires { IsJob job.now }
     ensures { IfOk result (λ a. outcome_in a ≡ outcome_of_job job.now) }
 {
-    if has_too_many_visits(job.stmts.as_slice()) {
+    if has_too_many_visits(job.parts.as_slice()) {
         return Ok(Answer::Refusal(refused_visits()));
     }
     Ok(Answer::Text(run(alloc, job)?))
@@ -53,7 +53,7 @@ fn run(alloc: Global, job: &Job) -> Result<Bytes, NoMemory>
     ensures { IfOk result (λ t. t ≡ run_text job.now) }
 {
     let mut wholes = given_tensors(alloc, job)?;
-    run_statements(alloc, job.stmts.as_slice(), &mut wholes)?;
+    run_parts(alloc, job.parts.as_slice(), &job.tensors, &mut wholes)?;
     let mut out = Bytes::new(alloc);
     out.append(b"distal run\n")?;
     put_shows(

@@ -5,8 +5,8 @@ mod answering;
 mod at_visit;
 mod limits;
 mod refusal;
+mod running;
 mod short_text;
-mod statements;
 mod status;
 mod tensor_text;
 mod top;
@@ -14,7 +14,6 @@ mod visiting;
 
 pub use status::Status;
 pub use top::distal;
-pub use visiting::{add_visits, run_part};
 
 #[cfg(test)]
 mod tests;

@@ -1,43 +1,46 @@
 //! The limits of what a job may ask for.
 
-ghost use Rattle.std.specs.Prelude.{◌≡◌, Some, None, nat_le, if◌then◌else◌};
-ghost use Rattle.dt_run.specs.Limits.{counted_product, has_too_many_visits, visit_limit};
+ghost use Rattle.std.specs.Prelude.{◌≡◌, ◌+◌, min};
+ghost use Rattle.dt_nest.specs.Tree.{tree_of};
+ghost use Rattle.dt_run.specs.Limits.{has_too_many_visits, visit_limit, visits_bound};
 
-use dt_model::Stmt;
+use dt_job::Part;
+use dt_nest::Nest;
 
 /// The most visits of a job.
 const VISIT_LIMIT: u64 = 4_194_304;
 
-/// Whether the statements have more than 4,194,304 visits in all. The count stops at the first number past the limit.
-pub fn has_too_many_visits(stmts: &[Stmt]) -> bool
-    ensures { result ≡ has_too_many_visits stmts.now }
+/// Whether the parts may have more than 4,194,304 visits in all.
+pub fn has_too_many_visits(parts: &[Part]) -> bool
+    ensures { result ≡ has_too_many_visits parts.now }
 {
     let mut count = 0u64;
-    for stmt in stmts {
-        match product_within(stmt.extents.as_slice()) {
-            None => return true,
-            Some(product) => count += product,
-        }
-        if count > VISIT_LIMIT {
-            return true;
-        }
+    for part in parts {
+        count = capped(count + capped_visits(&part.sched.parts().nest));
     }
-    false
+    count > VISIT_LIMIT
 }
 
-/// The product of the extents, where an extent of 0 counts as 1, if it is within the limit.
-fn product_within(extents: &[u32]) -> Option<u64>
-    ensures { result ≡ (if nat_le (counted_product extents.now) visit_limit then Some (counted_product extents.now) else None) }
+/// The visits that a nest may have, counted no further than to the first number past the limit.
+fn capped_visits(nest: &Nest) -> u64
+    ensures { result ≡ min (visits_bound (tree_of nest.now)) (visit_limit + 1) }
 {
-    let mut product = 1u64;
-    for extent in extents {
-        match product.checked_mul(u64::from((*extent).max(1))) {
-            None => return None,
-            Some(larger) => product = larger,
+    match nest {
+        Nest::Loop { extent, body, .. } => {
+            capped(u64::from((*extent).max(1)) * capped_visits(body))
         }
-        if product > VISIT_LIMIT {
-            return None;
-        }
+        Nest::Pre {
+            producer,
+            consumer,
+            ..
+        } => capped(capped_visits(producer) + capped_visits(consumer)),
+        Nest::Leaf { .. } => 1,
     }
-    Some(product)
+}
+
+/// The count, or the first number past the limit.
+fn capped(count: u64) -> u64
+    ensures { result ≡ min count (visit_limit + 1) }
+{
+    count.min(VISIT_LIMIT + 1)
 }

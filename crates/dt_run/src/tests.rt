@@ -1,11 +1,9 @@
-ghost use Rattle.std.specs.Prelude.{◌≡◌, All, IfOk, false, replicate, [], ◌∷◌};
-ghost use Rattle.dt_model.specs.Stmts.{IsStmt, shapes_of};
+//! Texts of refusals and of tensors.
 
 use crate::refusal::refused_line;
-use crate::statements::run_statements;
 use crate::tensor_text::put_tensor;
-use dt_base::{Bytes, Extents, Name, NoMemory, Vars};
-use dt_model::{Access, Cause, Factor, Factors, Shape, Stmt, Term, Terms, Whole};
+use dt_base::{Bytes, Name};
+use dt_model::{Cause, Shape, Whole};
 use std::alloc::Global;
 use std::test::Fail;
 
@@ -29,9 +27,7 @@ fn refuses_with_the_cause_and_its_arguments(rt: HostRuntime) {
     );
 }
 
-fn whole(alloc: Global, extents: &[u32], values: &[u64]) -> Result<Whole, Fail>
-    ensures { IfOk result (λ w. w.extents ≡ extents.now) }
-{
+fn whole(alloc: Global, extents: &[u32], values: &[u64]) -> Result<Whole, Fail> {
     let shape = Shape::from_extents(extents).ok_or("no shape")?;
     let values = Vec::from_slice(alloc, values)?;
     if values.len() != shape.count() as usize {
@@ -78,88 +74,5 @@ fn prints_a_row_for_each_last_extent(rt: HostRuntime) -> Result<(), Fail> {
             b"tensor A 2x1x3\n1 2 3\n4 5 6\n"
         )?
     );
-    Ok(())
-}
-
-fn access(alloc: Global, tensor: u32, vars: &[u32]) -> Result<Access, NoMemory>
-    ensures { IfOk result (λ a. a ≡ record { tensor = tensor; vars = vars.now }) }
-{
-    let vars = Vars::from_slice(alloc, vars)?;
-    Ok(Access { tensor, vars })
-}
-
-fn sum_of(alloc: Global, factors: Vec<Factor>) -> Result<Terms, NoMemory>
-    ensures { IfOk result (λ ts. ts ≡ record { minus = false; factors = factors.items } ∷ []) }
-{
-    let factors = Factors::from_vec(factors);
-    let minus = false;
-    let terms = Vec::from_array(alloc, [Term { minus, factors }])?;
-    Ok(Terms::from_vec(terms))
-}
-
-/// A(i,j) = B(i,k) * C(k,j)
-fn product(alloc: Global) -> Result<Stmt, NoMemory>
-    ensures { IfOk result (IsStmt (replicate 4 (2 ∷ 2 ∷ []))) }
-{
-    let lhs = access(alloc, 0, &[0, 1])?;
-    let left = access(alloc, 1, &[0, 2])?;
-    let right = access(alloc, 2, &[2, 1])?;
-    let factors = Vec::from_array(alloc, [Factor::Read(left), Factor::Read(right)])?;
-    let terms = sum_of(alloc, factors)?;
-    let extents = Extents::from_slice(alloc, &[2, 2, 2])?;
-    let adds = false;
-    Ok(Stmt {
-        lhs,
-        adds,
-        terms,
-        extents,
-    })
-}
-
-/// D(i,j) += A(i,j)
-fn addition(alloc: Global) -> Result<Stmt, NoMemory>
-    ensures { IfOk result (IsStmt (replicate 4 (2 ∷ 2 ∷ []))) }
-{
-    let lhs = access(alloc, 3, &[0, 1])?;
-    let right = access(alloc, 0, &[0, 1])?;
-    let factors = Vec::from_array(alloc, [Factor::Read(right)])?;
-    let terms = sum_of(alloc, factors)?;
-    let extents = Extents::from_slice(alloc, &[2, 2])?;
-    let adds = true;
-    Ok(Stmt {
-        lhs,
-        adds,
-        terms,
-        extents,
-    })
-}
-
-fn squares(alloc: Global) -> Result<Vec<Whole>, Fail>
-    ensures { IfOk result (λ ts. shapes_of ts.items ≡ replicate 4 (2 ∷ 2 ∷ [])) }
-{
-    let a = whole(alloc, &[2, 2], &[0, 0, 0, 0])?;
-    let b = whole(alloc, &[2, 2], &[1, 2, 3, 4])?;
-    let c = whole(alloc, &[2, 2], &[5, 6, 7, 8])?;
-    let d = whole(alloc, &[2, 2], &[1, 1, 1, 1])?;
-    Ok(Vec::from_array(alloc, [a, b, c, d])?)
-}
-
-fn statements(alloc: Global) -> Result<Vec<Stmt>, NoMemory>
-    ensures { IfOk result (λ ss. All (IsStmt (replicate 4 (2 ∷ 2 ∷ []))) ss.items) }
-{
-    let first = product(alloc)?;
-    let second = addition(alloc)?;
-    let stmts = Vec::from_array(alloc, [first, second])?;
-    Ok(stmts)
-}
-
-#[test]
-fn runs_statements_in_order(rt: HostRuntime) -> Result<(), Fail> {
-    let mut tensors = squares(rt.alloc())?;
-    let stmts = statements(rt.alloc())?;
-    run_statements(rt.alloc(), stmts.as_slice(), &mut tensors)?;
-    assert_eq!(rt; tensors.len(), 4);
-    assert_eq!(rt; tensors[0].values(), [19, 22, 43, 50].as_slice());
-    assert_eq!(rt; tensors[3].values(), [20, 23, 44, 51].as_slice());
     Ok(())
 }

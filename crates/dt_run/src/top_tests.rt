@@ -36,6 +36,21 @@ fn job(alloc: Global, at: usize, line: &[u8]) -> Result<Bytes, Fail> {
     Ok(text)
 }
 
+/// The product's job on a machine, with these commands and the end of the statement.
+fn scheduled(alloc: Global, machine: &[u8], commands: &[u8]) -> Result<Bytes, Fail> {
+    let mut text = Bytes::new(alloc);
+    for (i, old) in PRODUCT.iter().enumerate() {
+        let line = match i {
+            1 => machine,
+            8 => commands,
+            _ => *old,
+        };
+        text.append(line).ok().ok_or("memory")?;
+        text.append(b"\n").ok().ok_or("memory")?;
+    }
+    Ok(text)
+}
+
 /// Where a run is to fail: the calls of the source, of the sink, and the sink's room.
 #[derive(Clone, Copy, Debug)]
 struct Faults {
@@ -77,15 +92,48 @@ fn prints_the_product(rt: HostRuntime) -> Result<(), Fail> {
 }
 
 #[test]
+fn a_schedule_changes_no_number(rt: HostRuntime) -> Result<(), Fail> {
+    let schedules: [(&[u8], &[u8]); 9] = [
+        (b"machine 1", b"collapse i j f\nend"),
+        (b"machine 1", b"split i io ii 3\nend"),
+        (b"machine 1", b"reorder k j i\nend"),
+        (b"machine 1", b"rotate k i j r\nend"),
+        (b"machine 1", b"divide k ko ki 3\nrotate ki ko i r\nend"),
+        (
+            b"machine 1",
+            b"split j jo ji 1\ncollapse i jo f\nsplit f fo fi 3\nreorder k ji\nend",
+        ),
+        (b"machine 2", b"divide i io ii 2\ndistribute io\nend"),
+        // After Cannon.
+        (
+            b"machine 2x2",
+            b"divide i io ii 2\ndivide j jo ji 2\nreorder io jo ii ji\ndivide k ko ki 2\nreorder ko ii ji\nrotate ko io jo kos\ndistribute io jo\ncommunicate jo A\ncommunicate kos B C\nend",
+        ),
+        // After Johnson.
+        (
+            b"machine 2x2x2",
+            b"divide i io ii 2\ndivide j jo ji 2\ndivide k ko ki 2\nreorder io jo ko ii ji ki\ndistribute io jo ko\nend",
+        ),
+    ];
+    for (machine, commands) in schedules {
+        let text = scheduled(rt.alloc(), machine, commands)?;
+        let (status, out) = run(rt.alloc(), "run", text, &NO_FAULT)?;
+        assert_eq!(rt; status, Status::Done);
+        assert_eq!(rt; out.written(), PRINTED);
+    }
+    Ok(())
+}
+
+#[test]
 fn refuses_the_first_line_with_a_cause(rt: HostRuntime) -> Result<(), Fail> {
-    let changes: [(usize, &[u8], &[u8]); 13] = [
+    let changes: [(usize, &[u8], &[u8]); 15] = [
         (
             8,
             b"stmt A(i,j) = B(i,k) * D(k,j)",
             b"refused line 8: UnknownTensor D\n",
         ),
         (3, b"tensor A 3x2", b"refused line 8: ExtentClash i\n"),
-        (9, b"split i io ii 2", b"refused line 9: UnknownWord\n"),
+        (9, b"unroll i 2", b"refused line 9: UnknownWord\n"),
         (1, b"distal 2", b"refused line 1: Version\n"),
         (2, b"machine 2 / 2", b"refused line 2: Syntax\n"),
         (2, b"machine 2x33", b"refused line 2: BadDim\n"),
@@ -96,6 +144,12 @@ fn refuses_the_first_line_with_a_cause(rt: HostRuntime) -> Result<(), Fail> {
         (7, b"data B 5 6 7 8", b"refused line 7: Twice B\n"),
         (9, b"# no end", b"refused line 10: OutOfPlace\n"),
         (10, b"print D", b"refused line 10: UnknownTensor D\n"),
+        (
+            9,
+            b"split i io ii 2\nsplit j jo ji 2\nsplit i x y 2\nsplit k ko ki 1\nrotate ki ii ki\nend",
+            b"refused line 11: UnknownLoop i\n",
+        ),
+        (9, b"rotate i k r\nend", b"refused line 9: NotOuter k\n"),
     ];
     for (at, line, text) in changes {
         let (status, out) = run(rt.alloc(), "run", job(rt.alloc(), at, line)?, &NO_FAULT)?;
@@ -107,7 +161,7 @@ fn refuses_the_first_line_with_a_cause(rt: HostRuntime) -> Result<(), Fail> {
 
 #[test]
 fn whole_jobs_print_their_answers(rt: HostRuntime) -> Result<(), Fail> {
-    let jobs: [(&[u8], &[u8]); 10] = [
+    let jobs: [(&[u8], &[u8]); 14] = [
         (
             b"distal 1\nmachine 1\ntensor s scalar\ntensor b scalar\ndata b 18446744073709551615\nstmt s = b * 2\nend\nprint s\n",
             b"distal run\ntensor s scalar\n18446744073709551614\n",
@@ -136,6 +190,24 @@ fn whole_jobs_print_their_answers(rt: HostRuntime) -> Result<(), Fail> {
         (
             b"distal 1\nmachine 1\ntensor s scalar\ntensor a 2048\nstmt s = a(i) * a(j)\nend\nstmt s += 1\nend\n",
             b"refused plan: TooManyVisits\n",
+        ),
+        // Each split gives a loop of 65,536 values.
+        (
+            b"distal 1\nmachine 1\ntensor s scalar\ntensor a 2\nstmt s = a(i) * a(j)\nsplit i io ii 65536\nsplit j jo ji 65536\nend\n",
+            b"refused plan: TooManyVisits\n",
+        ),
+        (
+            b"distal 1\nmachine 1\ntensor s scalar\ntensor a 2\ndata a 3 4\nstmt s = a(i) * a(j)\nsplit i io ii 65\nend\nprint s\n",
+            b"distal run\ntensor s scalar\n49\n",
+        ),
+        // Blocks of 2, 2, 1 and 0 numbers.
+        (
+            b"distal 1\nmachine 4\ntensor a 5\ntensor b 5\nplace a x -> x\nplace b x -> x\ndata b 1 2 3 4 5\nstmt a(i) = b(i) + 10\ndivide i io ii 4\ndistribute io\nend\nprint a\n",
+            b"distal run\ntensor a 5\n11 12 13 14 15\n",
+        ),
+        (
+            b"distal 1\nmachine 1\ntensor y 3\ntensor x 3\ntensor z 3\nfill x ramp\nstmt y(i) = x(i) * x(i)\nsplit i io ii 2\nend\nstmt y(i) += - x(i)\nsplit i io ii 2\nreorder ii io\nend\nstmt z(i) = y(i)\nend\nprint y\nprint z\n",
+            b"distal run\ntensor y 3\n0 2 6\ntensor z 3\n0 2 6\n",
         ),
         (b"distal 1\nmachine 1", b"distal run\n"),
         // A machine and placements change nothing of what is printed.
