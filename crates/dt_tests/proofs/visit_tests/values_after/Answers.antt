@@ -1,0 +1,5 @@
+use Rattle.dt_tests.proofs.FirstPart.{first_fits}
+use Rattle.dt_tests.proofs.visit_tests.values_after.Goals as goal
+
+pub values-requires : goal.values-requires
+values-requires c = first_fits c.in-Ok.job c.as_slice-2.result.now c.part-item.result c.in-Ok.ensures.lawful c.as_slice-2.ensures c.in-len1-up.len_at_least c.part-item.is

@@ -1,0 +1,12 @@
+//! Tests that cross crates: from a job's text to the visits of its schedules, to the words that its nodes need, and to the
+//! nodes that these come from.
+#![tactic(auto)]
+
+#[cfg(test)]
+mod copies;
+#[cfg(test)]
+mod copy_tests;
+#[cfg(test)]
+mod visit_tests;
+#[cfg(test)]
+mod visits;
