@@ -3,33 +3,15 @@
 ghost use Rattle.std.specs.Prelude.{◌≤◌, ◌<◌, IfOk, IfSome, length};
 ghost use Rattle.dt_place.specs.Placements.{IsPlacement};
 
+use crate::case_end::CaseEnd;
 use dt_base::NoMemory;
-use dt_model::{LineEnd, Shape};
+use dt_model::Shape;
 use dt_place::{Machine, Placement, home, parse_machine, parse_place};
 use dt_tensor::{Tensor, Tensors};
 use std::alloc::Global;
 
 /// The most rows of the matrix.
 pub const MOST_ROWS: u32 = 1024;
-
-/// Why a number wasn't found.
-#[derive(Drop)]
-pub enum HomesEnd {
-    Refused,
-    NoMemory,
-}
-
-impl From<NoMemory> for HomesEnd {
-    fn from(_: NoMemory) -> HomesEnd {
-        HomesEnd::NoMemory
-    }
-}
-
-impl From<LineEnd> for HomesEnd {
-    fn from(_: LineEnd) -> HomesEnd {
-        HomesEnd::Refused
-    }
-}
 
 /// A square matrix of zeros.
 fn matrix(alloc: Global, rows: u32) -> Result<Option<Tensors>, NoMemory>
@@ -49,11 +31,11 @@ fn matrix(alloc: Global, rows: u32) -> Result<Option<Tensors>, NoMemory>
 
 /// The sum of the counts of words over the homes of a square matrix that lies in 8x8 blocks, and 0 where only the matrix
 /// is to be built.
-pub fn homes(alloc: Global, rows: u32, only_matrix: bool) -> Result<u32, HomesEnd>
+pub fn homes(alloc: Global, rows: u32, only_matrix: bool) -> Result<u32, CaseEnd>
     requires { rows ≤ MOST_ROWS }
 {
     let Some(tensors) = matrix(alloc, rows)? else {
-        return Err(HomesEnd::Refused);
+        return Err(CaseEnd::Refused);
     };
     let machine: Machine = parse_machine(alloc, b" 8x8")?;
     let placement = parse_place(alloc, b" B xy -> xy", 2, &machine)?;

@@ -1,15 +1,23 @@
 //! Runs one call at a size, and prints its answer. The words are a case and its size: for sorted sets a number of
-//! intervals, as in `meet 10000`, for homes the rows of a matrix, as in `homes 64`. It prints no times: the scripts under
-//! bench/ count instructions.
+//! intervals, as in `meet 10000`, for homes the rows of a matrix, as in `homes 64`, for needed words and for visits
+//! the rows of a product's matrices, as in `needs 64` and `visits 64`. It prints no times: the scripts under bench/ count instructions.
 #![tactic(auto)]
 
 mod case;
+mod case_end;
 mod homes;
+mod jobs;
+mod needs;
+mod walk;
 
 use case::{Case, answer};
+use case_end::CaseEnd;
 use homes::homes;
+use needs::needs;
+use std::alloc::Global;
 use std::process::ExitCode;
 use std::{env, io};
+use walk::{Walk, walked};
 
 fn main(rt: HostRuntime) -> io::Result<ExitCode> {
     let mut words = Vec::new(rt.alloc());
@@ -22,30 +30,44 @@ fn main(rt: HostRuntime) -> io::Result<ExitCode> {
     let Ok(size) = words[1].as_str().parse::<u32>() else {
         return Ok(ExitCode::from(1));
     };
-    if let Some(only_matrix) = homes_case(words[0].as_str()) {
-        if size > homes::MOST_ROWS {
-            return Ok(ExitCode::from(1));
-        }
-        return match homes(rt.alloc(), size, only_matrix) {
-            Ok(number) => {
-                println!(rt; "{} {size}: {number}", words[0])?;
-                Ok(ExitCode::from(0))
-            }
-            Err(_) => Ok(ExitCode::from(2)),
-        };
-    }
-    let Some(case) = Case::from_word(words[0].as_str()) else {
-        return Ok(ExitCode::from(1));
-    };
-    if size > case::LARGEST {
-        return Ok(ExitCode::from(1));
-    }
-    match answer(rt.alloc(), case, size) {
+    match run(rt.alloc(), words[0].as_str(), size) {
         Ok(number) => {
             println!(rt; "{} {size}: {number}", words[0])?;
             Ok(ExitCode::from(0))
         }
-        Err(_) => Ok(ExitCode::from(2)),
+        Err(CaseEnd::Refused) => Ok(ExitCode::from(1)),
+        Err(CaseEnd::NoMemory) => Ok(ExitCode::from(2)),
+    }
+}
+
+/// The answer of the case with this word.
+fn run(alloc: Global, word: &str, size: u32) -> Result<u32, CaseEnd> {
+    if let Some(only_matrix) = homes_case(word) {
+        if size > homes::MOST_ROWS {
+            return Err(CaseEnd::Refused);
+        }
+        return homes(alloc, size, only_matrix);
+    }
+    if let Some(only_job) = needs_case(word) {
+        if size > needs::MOST_ROWS {
+            return Err(CaseEnd::Refused);
+        }
+        return needs(alloc, size, only_job);
+    }
+    if let Some(walk) = Walk::from_word(word) {
+        if size > walk::LARGEST_EXTENT {
+            return Err(CaseEnd::Refused);
+        }
+        return walked(alloc, walk, size);
+    }
+    match Case::from_word(word) {
+        None => Err(CaseEnd::Refused),
+        Some(case) => {
+            if size > case::LARGEST {
+                return Err(CaseEnd::Refused);
+            }
+            Ok(answer(alloc, case, size)?)
+        }
     }
 }
 
@@ -54,6 +76,15 @@ fn homes_case(word: &str) -> Option<bool> {
     match word {
         "matrix" => Some(true),
         "homes" => Some(false),
+        _ => None,
+    }
+}
+
+/// Whether only the job is to be read, where the word is a case of needed words.
+fn needs_case(word: &str) -> Option<bool> {
+    match word {
+        "job" => Some(true),
+        "needs" => Some(false),
         _ => None,
     }
 }

@@ -1,0 +1,5 @@
+use Rattle.dt_bench.proofs.FirstPart.{first_fits}
+use Rattle.dt_bench.proofs.needs.needs.Goals as goal
+
+pub words_of_nodes-requires : goal.words_of_nodes-requires
+words_of_nodes-requires c = first_fits c.in_ok-job.job c.as_slice.result.now c.part-item.result c.in_ok-job.ensures c.as_slice.ensures c.in-len1-up.len_at_least c.part-item.is

@@ -1,0 +1,5 @@
+use Rattle.std.proofs.Common.{length}
+use Rattle.dt_bench.proofs.walk.visited.Given as goal
+
+abbrev pub decreases-loop-visits : goal.decreases-loop-visits
+decreases-loop-visits l = length l.visits.left
