@@ -1,16 +1,9 @@
 #!/bin/sh
 # How many instructions the homes of a square matrix in 8x8 blocks on 64 nodes take, all 64 together, for each of their
 # intervals (8 for each row), and how that grows with the rows.
-# It wants valgrind, and crates/dt_bench/out/dt_bench as `rt run` in crates/dt_bench builds it.
 set -eu
 cd "$(dirname "$0")/.."
-program=crates/dt_bench/out/dt_bench
-
-# The instructions of a whole run of a case at a size.
-instructions() {
-    valgrind --tool=callgrind --callgrind-out-file=/dev/null "$program" "$1" "$2" 2>&1 >/dev/null |
-        sed -n 's/.*Collected : *//p'
-}
+. bench/calls.sh
 
 printf '%-8s%12s%14s%14s%8s\n' rows intervals instructions 'an interval' ratio
 before=

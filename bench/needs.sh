@@ -1,16 +1,9 @@
 #!/bin/sh
 # How many instructions all needed words of a matrix product after SUMMA take, on a grid of 4x4 nodes in four steps, for each
 # visit that is walked: each of the three matrices has its own walk over all visits, the cube of the rows.
-# It wants valgrind, and crates/dt_bench/out/dt_bench as `rt run` in crates/dt_bench builds it.
 set -eu
 cd "$(dirname "$0")/.."
-program=crates/dt_bench/out/dt_bench
-
-# The instructions of a whole run of a case at a size.
-instructions() {
-    valgrind --tool=callgrind --callgrind-out-file=/dev/null "$program" "$1" "$2" 2>&1 >/dev/null |
-        sed -n 's/.*Collected : *//p'
-}
+. bench/calls.sh
 
 printf '%-6s%10s%14s%10s%8s\n' rows walked instructions 'a visit' ratio
 before=

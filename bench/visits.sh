@@ -1,17 +1,10 @@
 #!/bin/sh
 # How many instructions a visit takes in the nest of a matrix product whose three loops are cut by splits of 8, in the
-# order io jo ko ii ji ki: to come to it, to come to it and its leaf, and with the values of its three variables too. There
-# are as many visits as the cube of the extent has words.
-# It wants valgrind, and crates/dt_bench/out/dt_bench as `rt run` in crates/dt_bench builds it.
+# order io jo ko ii ji ki: to come to it, to come to it and its leaf, and with the values of its three variables too. The
+# visits are the cube of the extent.
 set -eu
 cd "$(dirname "$0")/.."
-program=crates/dt_bench/out/dt_bench
-
-# The instructions of a whole run of a case at a size.
-instructions() {
-    valgrind --tool=callgrind --callgrind-out-file=/dev/null "$program" "$1" "$2" 2>&1 >/dev/null |
-        sed -n 's/.*Collected : *//p'
-}
+. bench/calls.sh
 
 printf '%-8s%10s%12s%12s%12s%14s%8s\n' extent visits 'a visit' 'and leaf' 'and values' instructions ratio
 before=
