@@ -7,18 +7,9 @@ use Rattle.dt_nest.specs.declared.loops.Pair.{Pair}
 use Rattle.dt_nest.specs.declared.derivations.Derived.{Derived}
 use Rattle.dt_nest.specs.Each.{all_map}
 use Rattle.dt_nest.specs.Agree.{derive_agree}
+use Rattle.dt_nest.specs.Leads.{follows_whole}
 use Rattle.dt_nest.specs.Meaning.{World, Env, derive_of, known, renamed, under}
 use Rattle.dt_nest.specs.Lawful.{sources, is_replaced, IsPast, AreOrdered, Loops, Follows}
-
--- what was not replaced follows as a loop alone
-follows_plain : (ds : List Derived) (around : Loops) (name : Env) (v : ℕ) → is_replaced ds v ≡ false → Follows ds around name v → around v ≡ true
-follows_plain [] around name v r f = f
-follows_plain (d ∷ ds) around name v r f = go (nat_eq v d.var) r f (λ r f. follows_plain ds around name v r f)
-  where
-    go : (b : Bool) → (b || is_replaced ds v) ≡ false → MatchBool b (AllByRecursion (λ u. Follows ds around name (name u)) (sources d.how)) (Follows ds around name v)
-        → (is_replaced ds v ≡ false → Follows ds around name v → around v ≡ true) → around v ≡ true
-    go true r f k = absurd (cc)
-    go false r f k = k r f
 
 past_kept : (v : ℕ) (ds : List Derived) → IsPast v ds → is_replaced ds v ≡ false
 past_kept v [] h = refl
@@ -35,7 +26,7 @@ follows_front d ds around name p h v f = go (nat_eq v d.var) (eqb-true v d.var) 
     go : (b : Bool) → (b ≡ true → v ≡ d.var) → (around v ≡ true → (b || is_replaced ds v) ≡ false) → MatchBool b (AllByRecursion (λ u. Follows ds around name (name u)) (sources d.how)) (Follows ds around name v)
     go false e k = f
     go true e k =
-        let a : around v ≡ true = follows_plain ds around name v (ap (is_replaced ds) (e refl) ∙ past_kept d.var ds p) f in
+        let a : around v ≡ true = follows_whole ds around name v (ap (is_replaced ds) (e refl) ∙ past_kept d.var ds p) f in
         let r = k a in absurd (cc)
 
 module _ (w : World) (pairs : List Pair) (around : Loops) (name env : Env) where

@@ -23,3 +23,4 @@ pub mod RootApart
 pub mod Turns
 pub mod TableFacts
 pub mod StepFacts
+pub mod StmtFits

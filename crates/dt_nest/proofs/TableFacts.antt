@@ -1,17 +1,20 @@
 -- Lists with the values of all variables, as they are filled.
 use Rattle.std.proofs.Common.{◌≡◌, ℕ, ◌+◌, ◌*◌, ◌<◌, ◌≤◌, Bool, true, false, ◌&&◌, ◌||◌, List, [], ◌∷◌, length, Option, Some, None, refl, sym, ap, ◌∙◌, subst, arith}
 use Rattle.std.specs.Prelude.{if◌then◌else◌, MatchBool, is_some, nat_eq, nat_lt, slice_index}
+use Rattle.std.specs.Bool.{OnTrue}
 use Rattle.std.specs.List.{AllByRecursion, list_all}
 use Rattle.std.proofs.Math.Path.{fun_ext}
 use Rattle.std.proofs.Math.ListN.{set}
 use Rattle.std.proofs.lemmas.Bool.{eqb-true, eq-eqb, ltb-true, ltb-false}
 use Rattle.std.proofs.lemmas.List.{get_or-set_other, get_or-set_same, get_or_past}
+use Rattle.dt_nest.specs.declared.loops.Walk.{Walk}
+use Rattle.dt_nest.specs.declared.loops.Pair.{Pair}
 use Rattle.dt_nest.specs.declared.derivations.Derive.{Derive}
 use Rattle.dt_nest.specs.declared.derivations.Derive.TheVariants.{Split, Quotient, Rest, Rotate, Pos}
 use Rattle.dt_nest.specs.declared.derivations.Derived.{Derived}
-use Rattle.dt_nest.specs.Meaning.{World}
+use Rattle.dt_nest.specs.Meaning.{World, Env, renamed}
 use Rattle.dt_nest.specs.Lawful.{is_replaced, is_split}
-use Rattle.dt_nest.specs.Values.{bounded, derived_inside, guard_inside, inside, inside_in, inside_tests, is_below, joined}
+use Rattle.dt_nest.specs.Values.{bounded, derived_inside, guard_inside, inside, inside_in, inside_tests, is_below, joined, takes_inside}
 use Rattle.dt_nest.specs.Tables.{tabled, IsSplitVar, IsTable}
 
 -- a number that is another one, or not
@@ -56,28 +59,28 @@ module _ (slots : List ℕ) (values : List (Option ℕ)) where
       → (u : ℕ) → is_replaced rest u ≡ false → tabled (set values d.var (Some (slice_index slots d.var))) u ≡ Some (slice_index slots u)
   more_derived ds rest d e l h u r = set_slot d.var u l (λ k. h u (ap (λ (l : List Derived). is_replaced l u) e ∙ ap (λ (b : Bool). b || is_replaced rest u) k ∙ r))
 
-module _ (w : World) (slots : List ℕ) where
+module _ (w : World) (name : Env) (slots : List ℕ) where
   -- no derivation
-  pub table_none : (values : List (Option ℕ)) → ((u : ℕ) → tabled values u ≡ Some (slice_index slots u)) → IsTable w [] slots values
+  pub table_none : (values : List (Option ℕ)) → ((u : ℕ) → tabled values u ≡ Some (slice_index slots u)) → IsTable w [] name slots values
   unfolding inside
   table_none values h u = h u
 
   -- one more derivation
-  pub table_more : (values : List (Option ℕ)) (d : Derived) (rest ds : List Derived) (x : Option ℕ) → d.var < length values → IsTable w rest slots values → ds ≡ d ∷ rest → x ≡ derived_inside w d.var d.how (tabled values) → IsTable w ds slots (set values d.var x)
+  pub table_more : (values : List (Option ℕ)) (d : Derived) (rest ds : List Derived) (x : Option ℕ) → d.var < length values → IsTable w rest name slots values → ds ≡ d ∷ rest → x ≡ derived_inside w d.var d.how (λ u. tabled values (name u)) → IsTable w ds name slots (set values d.var x)
   unfolding inside
   table_more values d rest ds x l h e r u =
-      let same : tabled values ≡ inside_in w rest [] slots = fun_ext h in
-      ap (λ (y : Option ℕ). tabled (set values d.var y) u) (r ∙ ap (derived_inside w d.var d.how) same)
+      let same : tabled values ≡ inside w rest name (slice_index slots) = fun_ext h in
+      ap (λ (y : Option ℕ). tabled (set values d.var y) u) (r ∙ ap (λ (val : ℕ → Option ℕ). derived_inside w d.var d.how (λ u. val (name u))) same)
       ∙ go (nat_eq u d.var) refl (eqb-true u d.var)
-      ∙ ap (λ (l : List Derived). inside_in w l [] slots u) (sym e)
+      ∙ ap (λ (l : List Derived). inside w l name (slice_index slots) u) (sym e)
     where
       go : (b : Bool) → nat_eq u d.var ≡ b → (b ≡ true → u ≡ d.var)
-          → tabled (set values d.var (derived_inside w d.var d.how (inside_in w rest [] slots))) u ≡ (if b then derived_inside w d.var d.how (inside_in w rest [] slots) else inside_in w rest [] slots u)
+          → tabled (set values d.var (derived_inside w d.var d.how (λ v. inside w rest name (slice_index slots) (name v)))) u ≡ (if b then derived_inside w d.var d.how (λ v. inside w rest name (slice_index slots) (name v)) else inside w rest name (slice_index slots) u)
       go true k p =
-          ap (λ (v : ℕ). tabled (set values d.var (derived_inside w d.var d.how (inside_in w rest [] slots))) v) (p refl)
-          ∙ get_or-set_same values d.var (derived_inside w d.var d.how (inside_in w rest [] slots)) (Some 0) l
+          ap (λ (v : ℕ). tabled (set values d.var (derived_inside w d.var d.how (λ v. inside w rest name (slice_index slots) (name v)))) v) (p refl)
+          ∙ get_or-set_same values d.var (derived_inside w d.var d.how (λ v. inside w rest name (slice_index slots) (name v))) (Some 0) l
       go false k p =
-          get_or-set_other values d.var u (derived_inside w d.var d.how (inside_in w rest [] slots)) (Some 0) (λ q. let t : nat_eq u d.var ≡ true = eq-eqb u d.var q in absurd (cc)) ∙ h u
+          get_or-set_other values d.var u (derived_inside w d.var d.how (λ v. inside w rest name (slice_index slots) (name v))) (Some 0) (λ q. let t : nat_eq u d.var ≡ true = eq-eqb u d.var q in absurd (cc)) ∙ h u
 
 -- a loop that was not replaced has its own value
 inside_loop : (w : World) (ds : List Derived) (slots : List ℕ) (u : ℕ) → is_replaced ds u ≡ false → inside_in w ds [] slots u ≡ Some (slice_index slots u)
@@ -91,14 +94,19 @@ inside_loop w (d ∷ ds) slots u r = go (nat_eq u d.var) r (inside_loop w ds slo
     go false e h = h e
 
 -- where loops follow their slots, they still have their own values
-pub loops_follow : (w : World) (ds : List Derived) (old new : List ℕ) (values after : List (Option ℕ)) → IsTable w ds old values
+pub loops_follow : (w : World) (ds : List Derived) (old new : List ℕ) (values after : List (Option ℕ)) → IsTable w ds (λ u. u) old values
     → ((u : ℕ) → tabled values u ≡ Some (slice_index old u) → tabled after u ≡ Some (slice_index new u)) → (u : ℕ) → is_replaced ds u ≡ false → tabled after u ≡ Some (slice_index new u)
 loops_follow w ds old new values after t f u r = f u (t u ∙ inside_loop w ds old u r)
 
 -- guards hold by a table
-pub table_holds : (w : World) (ds : List Derived) (slots : List ℕ) (values : List (Option ℕ)) (guards : List ℕ) → IsTable w ds slots values
+pub table_holds : (w : World) (ds : List Derived) (slots : List ℕ) (values : List (Option ℕ)) (guards : List ℕ) → IsTable w ds (λ u. u) slots values
     → list_all (λ g. is_below (w.extent g) (tabled values g)) guards ≡ (inside_tests w ds).holds guards [] slots
 table_holds w ds slots values guards t = ap (λ (val : ℕ → Option ℕ). list_all (guard_inside w val) guards) (fun_ext t)
+
+-- and where names are new
+pub table_holds_at : (w : World) (ds : List Derived) (pairs : List Pair) (slots : List ℕ) (values : List (Option ℕ)) (guards : List ℕ) → IsTable w ds (renamed pairs) slots values
+    → list_all (λ g. is_below (w.extent g) (tabled values (renamed pairs g))) guards ≡ (inside_tests w ds).holds guards pairs slots
+table_holds_at w ds pairs slots values guards t = ap (λ (val : ℕ → Option ℕ). list_all (guard_inside w val) guards) (fun_ext (λ u. t (renamed pairs u)))
 
 -- where one more variable has a value, all that had one still have it
 pub set_full : (values : List (Option ℕ)) (v : ℕ) (x : Option ℕ) (full some : Bool) → v < length values → (full && some) ≡ true → some ≡ is_some x → (full ≡ true → (u : ℕ) → is_some (tabled values u) ≡ true)
@@ -136,10 +144,26 @@ split_below w slots (d ∷ ds) v s e = go (nat_eq v d.var) (eqb-true v d.var) s 
     go true p s e h = ap (λ (k : ℕ). is_below (w.extent k) (derived_inside w d.var d.how (inside_in w ds [] slots))) (p refl) ∙ of_split d.how s e
     go false p s e h = h s e
 
+-- the derivation of a variable comes later in the list
+pub split_later : (ds more rest : List Derived) (d : Derived) (v : ℕ) → (IsSplitVar more v → IsSplitVar ds v) → more ≡ d ∷ rest → nat_eq v d.var ≡ false → IsSplitVar rest v → IsSplitVar ds v
+split_later ds more rest d v h e n p =
+    h (subst (λ (l : List Derived). IsSplitVar l v) (sym e) (subst (λ (b : Bool). MatchBool b (is_split d.how ≡ true) (IsSplitVar rest v)) (sym n) p))
+
+-- the derivation of a variable is found
+pub split_found : (ds more rest : List Derived) (d : Derived) (v : ℕ) (b : Bool) → (IsSplitVar more v → IsSplitVar ds v) → more ≡ d ∷ rest → nat_eq v d.var ≡ true → b ≡ is_split d.how → OnTrue b (IsSplitVar ds v)
+split_found ds more rest d v true h e n p =
+    h (subst (λ (l : List Derived). IsSplitVar l v) (sym e) (subst (λ (b : Bool). MatchBool b (is_split d.how ≡ true) (IsSplitVar rest v)) (sym n) (sym p)))
+split_found ds more rest d v false h e n p = tt
+
 -- where all variables have values, guards that are variables of splits hold
-pub full_holds : (w : World) (ds : List Derived) (slots : List ℕ) (values : List (Option ℕ)) (guards : List ℕ) → IsTable w ds slots values → AllByRecursion (IsSplitVar ds) guards → ((u : ℕ) → is_some (tabled values u) ≡ true)
+pub full_holds : (w : World) (ds : List Derived) (slots : List ℕ) (values : List (Option ℕ)) (guards : List ℕ) → IsTable w ds (λ u. u) slots values → AllByRecursion (IsSplitVar ds) guards → ((u : ℕ) → is_some (tabled values u) ≡ true)
     → (inside_tests w ds).holds guards [] slots ≡ true
 full_holds w ds slots values [] t s f = refl
 full_holds w ds slots values (g ∷ guards) t s f =
     ap (λ (b : Bool). b && list_all (guard_inside w (inside_in w ds [] slots)) guards) (split_below w slots ds g s.0 (ap is_some (sym (t g)) ∙ f g))
     ∙ full_holds w ds slots values guards t s.1 f
+
+-- a loop takes its value by a table
+pub table_takes : (w : World) (ds : List Derived) (pairs : List Pair) (slots : List ℕ) (values : List (Option ℕ)) (walk : Option Walk) (v : ℕ) → IsTable w ds (renamed pairs) slots values
+    → takes_inside w walk v (renamed pairs) (λ u. tabled values (renamed pairs u)) ≡ (inside_tests w ds).takes walk v pairs slots
+table_takes w ds pairs slots values walk v t = ap (takes_inside w walk v (renamed pairs)) (fun_ext (λ u. t (renamed pairs u)))

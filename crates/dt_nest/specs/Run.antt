@@ -196,7 +196,7 @@ pub record IsSound (stored : List StoredTensor) (s : Schedule) (path slots : Lis
 pub record IsKept (stored : List StoredTensor) (s : Schedule) (path slots : List ℕ) (p : Progress) (w : Wheels) (values : List (Option ℕ)) : Type 0 where
   pub wheels : AreWheels s path w
   pub room : length values ≡ length s.names
-  pub table : p ≡ On w.leaf → IsTable (world_of stored s) s.derived slots values
+  pub table : p ≡ On w.leaf → IsTable (world_of stored s) s.derived (λ u. u) slots values
 
 -- what a step of the wheels came to: a visit, or none where a wheel went on or none can
 abbrev pub StepIs : Tests → Wheels → List ℕ → List ℕ → Bool → Type 0

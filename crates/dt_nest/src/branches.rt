@@ -11,11 +11,12 @@ ghost use Rattle.dt_nest.specs.Odometer.{guards_of, pairs_at, works_at};
 ghost use Rattle.dt_nest.specs.Visits.{is_valid};
 ghost use Rattle.dt_nest.specs.Branch.{leaf_at, substituted_at, valid_at};
 
+use crate::against::Against;
 use crate::lanes::{Lane, Slots};
 use crate::loops::{Nest, Walk};
 use crate::naming::Naming;
 use crate::odometer::{has_kernel, leaves};
-use crate::values::{Against, value};
+use crate::values::value;
 use dt_model::Locator;
 
 /// A substituted loop and its extent.

@@ -1,12 +1,14 @@
 //! Loop trees: schedules, what they mean, their visits, and the law that every command keeps.
 #![tactic(auto)]
 
+mod against;
 mod branches;
 mod chains;
 mod commands;
 mod copies;
 mod cuts;
 mod derivations;
+mod knowing;
 mod lanes;
 mod laws;
 mod loops;
@@ -30,6 +32,7 @@ pub use cuts::{Cut, Head, Heads};
 pub use derivations::{Derivations, Derive, Derived};
 pub use laws::{sum_reads_tensors, visits_add_the_sum};
 pub use loops::{Kernel, Nest, Pair, Pairs, Walk};
+pub use odometer::has_kernel;
 pub use parts::{Moved, MovedList, SchedParts, Work, Works};
 pub use progress::Visit;
 pub use schedules::Sched;

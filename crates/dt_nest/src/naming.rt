@@ -6,6 +6,28 @@ ghost use Rattle.dt_nest.specs.Naming.{pairs_in};
 
 use crate::loops::Pair;
 
+/// What gives loops and variables their names at a place.
+pub trait Renaming {
+    ghost use Rattle.std.specs.Prelude.{ℕ};
+
+    ghost names: { Self → ℕ → ℕ };
+
+    /// The name that a loop or variable has.
+    fn name_of(&self, u: u32) -> u32
+        ensures { result ≡ names self.now u };
+}
+
+/// Each loop and variable has its own name.
+pub struct Unrenamed;
+
+impl Renaming for Unrenamed {
+    ghost names = { λ n u. u };
+
+    fn name_of(&self, u: u32) -> u32 {
+        u
+    }
+}
+
 /// The renamings of the producers around a place in a nest.
 #[derive(Clone, Copy)]
 pub enum Naming<'a> {
@@ -33,5 +55,16 @@ impl Naming<'_> {
             Naming::Root => u,
             Naming::Under(pairs, outer) => renamed_by(pairs, outer.name(u)),
         }
+    }
+}
+
+impl Renaming for Naming<'_> {
+    ghost use Rattle.dt_nest.specs.Meaning.{renamed};
+    ghost use Rattle.dt_nest.specs.Naming.{pairs_in};
+
+    ghost names = { λ n u. renamed (pairs_in n) u };
+
+    fn name_of(&self, u: u32) -> u32 {
+        self.name(u)
     }
 }

@@ -20,6 +20,7 @@ pub struct Stand {
 
 /// What a run over visits asks of values: whether a loop takes its value, and whether guards hold.
 pub trait Testing {
+    ghost use Rattle.std.specs.Prelude.{ℕ};
     ghost use Rattle.dt_nest.specs.Visits.{Tests};
 
     ghost tests: { Self → Tests };
@@ -27,13 +28,35 @@ pub trait Testing {
     /// When the tests may be asked.
     ghost ready: { Self → Type 0 };
 
-    fn takes(&self, walk: &Option<Walk>, var: u32, naming: &Naming, slots: &[u32]) -> bool
-        requires { ready self.now }
-        ensures { result ≡ (tests self.now).takes walk.now var (pairs_in naming.now) slots.now };
+    /// How many slots there are. The tests write as many values down on the way.
+    ghost room: { Self → ℕ };
 
-    fn holds(&self, guards: &[u32], naming: &Naming, slots: &[u32]) -> bool
-        requires { ready self.now }
-        ensures { result ≡ (tests self.now).holds guards.now (pairs_in naming.now) slots.now };
+    fn takes(
+        &self,
+        walk: &Option<Walk>,
+        var: u32,
+        naming: &Naming,
+        slots: &[u32],
+        values: &mut [Option<u32>],
+    ) -> bool
+        requires ready { ready self.now }
+        requires slots { length slots.now ≡ room self.now }
+        requires values { length values.old ≡ room self.now }
+        ensures takes { result ≡ (tests self.now).takes walk.now var (pairs_in naming.now) slots.now }
+        ensures values { length values.new ≡ length values.old };
+
+    fn holds(
+        &self,
+        guards: &[u32],
+        naming: &Naming,
+        slots: &[u32],
+        values: &mut [Option<u32>],
+    ) -> bool
+        requires ready { ready self.now }
+        requires slots { length slots.now ≡ room self.now }
+        requires values { length values.old ≡ room self.now }
+        ensures holds { result ≡ (tests self.now).holds guards.now (pairs_in naming.now) slots.now }
+        ensures values { length values.new ≡ length values.old };
 }
 
 /// The number of leaves.
@@ -75,17 +98,22 @@ fn is_lane<T: Testing>(
     naming: &Naming,
     tests: &T,
     slots: &[u32],
+    values: &mut [Option<u32>],
 ) -> bool
     requires ready { T.ready tests.now }
-    ensures { result ≡ ((T.tests tests.now).takes walk.now var (pairs_in naming.now) slots.now && (T.tests tests.now).holds (guards_of (tree_of body.now)) (pairs_in naming.now) slots.now) }
+    requires slots { length slots.now ≡ T.room tests.now }
+    requires values { length values.old ≡ T.room tests.now }
+    ensures valid { result ≡ ((T.tests tests.now).takes walk.now var (pairs_in naming.now) slots.now && (T.tests tests.now).holds (guards_of (tree_of body.now)) (pairs_in naming.now) slots.now) }
+    ensures values { length values.new ≡ length values.old }
 {
     match body {
-        Nest::Loop { .. } => tests.takes(walk, var, naming, slots)
-            && tests.holds(&[], naming, slots),
-        Nest::Pre { .. } => tests.takes(walk, var, naming, slots)
-            && tests.holds(&[], naming, slots),
+        Nest::Loop { .. } => tests.takes(walk, var, naming, slots, values)
+            && tests.holds(&[], naming, slots, values),
+        Nest::Pre { .. } => tests.takes(walk, var, naming, slots, values)
+            && tests.holds(&[], naming, slots, values),
         Nest::Leaf { guards, .. } => {
-            tests.takes(walk, var, naming, slots) && tests.holds(guards.as_slice(), naming, slots)
+            tests.takes(walk, var, naming, slots, values)
+                && tests.holds(guards.as_slice(), naming, slots, values)
         }
     }
 }
@@ -99,16 +127,20 @@ fn has_lane<T: Testing>(
     naming: &Naming,
     tests: &T,
     slots: &mut [u32],
+    values: &mut [Option<u32>],
 ) -> bool
     requires ready { T.ready tests.now }
     requires room { var < length slots.old }
     requires zero { slice_index slots.old var ≡ 0 }
+    requires slots { length slots.old ≡ T.room tests.now }
+    requires values { length values.old ≡ T.room tests.now }
     ensures found { result ≡ list_any (is_valid (T.tests tests.now) walk.now var (guards_of (tree_of body.now)) (pairs_in naming.now) slots.old) (range_with_len 0 extent) }
     ensures slots { slots.new ≡ slots.old }
+    ensures values { length values.new ≡ length values.old }
 {
     for x in 0..extent {
         slots[var as usize] = x;
-        let valid = is_lane(body, walk, var, naming, tests, slots);
+        let valid = is_lane(body, walk, var, naming, tests, slots, values);
         slots[var as usize] = 0;
         if valid {
             return true;
@@ -125,13 +157,17 @@ pub fn first<T: Testing>(
     tests: &T,
     path: &[u32],
     slots: &mut [u32],
+    values: &mut [Option<u32>],
 ) -> Option<u32>
     requires ready { T.ready tests.now }
     requires few { leaf_count (tree_of nest.now) < 2 ^ 32 }
     requires room { HaveSlots (tree_of nest.now) (length slots.old) }
     requires zero { AreZero (tree_of nest.now) slots.old }
     requires path { IsPathIn (tree_of nest.now) path.now }
-    ensures { Finds (T.tests tests.now) (tree_of nest.now) (pairs_in naming.now) path.now slots.old slots.new result }
+    requires slots { length slots.old ≡ T.room tests.now }
+    requires values { length values.old ≡ T.room tests.now }
+    ensures finds { Finds (T.tests tests.now) (tree_of nest.now) (pairs_in naming.now) path.now slots.old slots.new result }
+    ensures values { length values.new ≡ length values.old }
 {
     match nest {
         Nest::Loop {
@@ -141,7 +177,7 @@ pub fn first<T: Testing>(
             body,
         } => {
             if has_kernel(body) {
-                return if has_lane(body, walk, *var, *extent, naming, tests, slots) {
+                return if has_lane(body, walk, *var, *extent, naming, tests, slots, values) {
                     Some(0)
                 } else {
                     None
@@ -149,7 +185,7 @@ pub fn first<T: Testing>(
             }
             let end = *extent;
             match path.split_first() {
-                None => first_from(body, walk, *var, 0, end, naming, tests, path, slots),
+                None => first_from(body, walk, *var, 0, end, naming, tests, path, slots, values),
                 Some((x, rest)) => first_from(
                     body,
                     walk,
@@ -160,6 +196,7 @@ pub fn first<T: Testing>(
                     tests,
                     rest,
                     slots,
+                    values,
                 ),
             }
         }
@@ -170,15 +207,15 @@ pub fn first<T: Testing>(
             ..
         } => {
             let inner = Naming::Under(pairs.as_slice(), &*naming);
-            if let Some(leaf) = first(producer, &inner, tests, &[], slots) {
+            if let Some(leaf) = first(producer, &inner, tests, &[], slots, values) {
                 return Some(leaf);
             }
-            match first(consumer, naming, tests, &[], slots) {
+            match first(consumer, naming, tests, &[], slots, values) {
                 None => None,
                 Some(leaf) => Some(leaves(producer) + leaf),
             }
         }
-        Nest::Leaf { guards, .. } => if tests.holds(guards.as_slice(), naming, slots) {
+        Nest::Leaf { guards, .. } => if tests.holds(guards.as_slice(), naming, slots, values) {
             Some(0)
         } else {
             None
@@ -196,16 +233,20 @@ fn enter<T: Testing>(
     tests: &T,
     path: &[u32],
     slots: &mut [u32],
+    values: &mut [Option<u32>],
 ) -> Option<u32>
     requires ready { T.ready tests.now }
     requires few { leaf_count (tree_of body.now) < 2 ^ 32 }
     requires room { HaveSlots (tree_of body.now) (length slots.old) }
     requires zero { AreZero (tree_of body.now) slots.old }
     requires path { IsPathIn (tree_of body.now) path.now }
-    ensures { Enters (T.tests tests.now) walk.now var (tree_of body.now) (pairs_in naming.now) path.now slots.old slots.new result }
+    requires slots { length slots.old ≡ T.room tests.now }
+    requires values { length values.old ≡ T.room tests.now }
+    ensures enters { Enters (T.tests tests.now) walk.now var (tree_of body.now) (pairs_in naming.now) path.now slots.old slots.new result }
+    ensures values { length values.new ≡ length values.old }
 {
-    if tests.takes(walk, var, naming, slots) {
-        first(body, naming, tests, path, slots)
+    if tests.takes(walk, var, naming, slots, values) {
+        first(body, naming, tests, path, slots, values)
     } else {
         None
     }
@@ -223,17 +264,21 @@ fn first_from<T: Testing>(
     tests: &T,
     path: &[u32],
     slots: &mut [u32],
+    values: &mut [Option<u32>],
 ) -> Option<u32>
     requires ready { T.ready tests.now }
     requires few { leaf_count (tree_of body.now) < 2 ^ 32 }
     requires room { HaveSlots (Loop var to walk.now (tree_of body.now)) (length slots.old) }
     requires zero { AreZero (Loop var to walk.now (tree_of body.now)) slots.old }
     requires path { IsPathIn (tree_of body.now) path.now }
-    ensures { FindsFrom (T.tests tests.now) walk.now var (tree_of body.now) (pairs_in naming.now) path.now from to slots.old slots.new result }
+    requires slots { length slots.old ≡ T.room tests.now }
+    requires values { length values.old ≡ T.room tests.now }
+    ensures finds { FindsFrom (T.tests tests.now) walk.now var (tree_of body.now) (pairs_in naming.now) path.now from to slots.old slots.new result }
+    ensures values { length values.new ≡ length values.old }
 {
     for i in from..to {
         slots[var as usize] = i;
-        if let Some(leaf) = enter(body, walk, var, naming, tests, path, slots) {
+        if let Some(leaf) = enter(body, walk, var, naming, tests, path, slots, values) {
             return Some(leaf);
         }
         slots[var as usize] = 0;
@@ -270,13 +315,17 @@ pub fn next_visit<T: Testing>(
     path: &[u32],
     leaf: u32,
     slots: &mut [u32],
+    values: &mut [Option<u32>],
 ) -> Option<Stand>
     requires ready { T.ready tests.now }
     requires few { leaf_count (tree_of nest.now) < 2 ^ 32 }
     requires room { HaveSlots (tree_of nest.now) (length slots.old) }
     requires stands { IsAt (tree_of nest.now) slots.old leaf }
     requires path { IsPathIn (tree_of nest.now) path.now }
-    ensures { Steps (T.tests tests.now) (tree_of nest.now) (pairs_in naming.now) path.now leaf slots.old slots.new result }
+    requires slots { length slots.old ≡ T.room tests.now }
+    requires values { length values.old ≡ T.room tests.now }
+    ensures steps { Steps (T.tests tests.now) (tree_of nest.now) (pairs_in naming.now) path.now leaf slots.old slots.new result }
+    ensures values { length values.new ≡ length values.old }
 {
     match nest {
         Nest::Loop {
@@ -291,12 +340,23 @@ pub fn next_visit<T: Testing>(
             let end = *extent;
             let x = slots[*var as usize];
             let rest = below_first(path);
-            if let Some(stand) = next_visit(body, naming, tests, rest, leaf, slots) {
+            if let Some(stand) = next_visit(body, naming, tests, rest, leaf, slots, values) {
                 return Some(stand);
             }
             slots[*var as usize] = 0;
             let to = end_of(path, end, x);
-            match first_from(body, walk, *var, x + 1, to, naming, tests, rest, slots) {
+            match first_from(
+                body,
+                walk,
+                *var,
+                x + 1,
+                to,
+                naming,
+                tests,
+                rest,
+                slots,
+                values,
+            ) {
                 None => None,
                 Some(leaf) => Some(Stand { leaf, past: 0 }),
             }
@@ -310,13 +370,13 @@ pub fn next_visit<T: Testing>(
             let count = leaves(producer);
             if leaf < count {
                 let inner = Naming::Under(pairs.as_slice(), &*naming);
-                if let Some(stand) = next_visit(producer, &inner, tests, &[], leaf, slots) {
+                if let Some(stand) = next_visit(producer, &inner, tests, &[], leaf, slots, values) {
                     return Some(Stand {
                         leaf: stand.leaf,
                         past: stand.past + 1,
                     });
                 }
-                match first(consumer, naming, tests, &[], slots) {
+                match first(consumer, naming, tests, &[], slots, values) {
                     None => None,
                     Some(leaf) => Some(Stand {
                         leaf: count + leaf,
@@ -324,7 +384,7 @@ pub fn next_visit<T: Testing>(
                     }),
                 }
             } else {
-                match next_visit(consumer, naming, tests, &[], leaf - count, slots) {
+                match next_visit(consumer, naming, tests, &[], leaf - count, slots, values) {
                     None => None,
                     Some(stand) => Some(Stand {
                         leaf: count + stand.leaf,

@@ -37,11 +37,26 @@ impl Testing for Rule {
 
     ghost ready = { λ r. Unit {0} };
 
-    fn takes(&self, walk: &Option<Walk>, var: u32, _naming: &Naming, slots: &[u32]) -> bool {
+    ghost room = { λ r. 3 };
+
+    fn takes(
+        &self,
+        walk: &Option<Walk>,
+        var: u32,
+        _naming: &Naming,
+        slots: &[u32],
+        _values: &mut [Option<u32>],
+    ) -> bool {
         walk.is_none() || slot(slots, var) % 2 == 1
     }
 
-    fn holds(&self, _guards: &[u32], _naming: &Naming, slots: &[u32]) -> bool {
+    fn holds(
+        &self,
+        _guards: &[u32],
+        _naming: &Naming,
+        slots: &[u32],
+        _values: &mut [Option<u32>],
+    ) -> bool {
         2 * u64::from(slot(slots, 0)) + u64::from(slot(slots, 1)) < u64::from(self.limit)
     }
 }
@@ -147,8 +162,9 @@ fn visits_seen(
     assert!(rt; have_slots(nest, 3));
     assert!(rt; is_path(nest, path));
     let mut slots = [0u32; 3];
+    let mut values = [None; 3];
     let mut list = Vec::new(alloc);
-    let mut leaf = match first(nest, &Naming::Root, rule, path, &mut slots) {
+    let mut leaf = match first(nest, &Naming::Root, rule, path, &mut slots, &mut values) {
         None => return Ok(list),
         Some(leaf) => leaf,
     };
@@ -158,7 +174,15 @@ fn visits_seen(
         slots,
     })?;
     for _ in 0..16 {
-        match next_visit(nest, &Naming::Root, rule, path, leaf, &mut slots) {
+        match next_visit(
+            nest,
+            &Naming::Root,
+            rule,
+            path,
+            leaf,
+            &mut slots,
+            &mut values,
+        ) {
             None => return Ok(list),
             Some(stand) => {
                 leaf = stand.leaf;

@@ -7,11 +7,11 @@ ghost use Rattle.dt_nest.specs.Tree.{tree_of, leaf_count};
 ghost use Rattle.dt_nest.specs.Odometer.{works_at};
 ghost use Rattle.dt_nest.specs.Run.{ArrivesAt, CanGoOn, IsSound, Moves, answer_at, left_of, run_tests, standing};
 
+use crate::against::Against;
 use crate::branches::work_of;
 use crate::loops::Nest;
 use crate::naming::Naming;
 use crate::odometer::{first, next_visit};
-use crate::values::Against;
 use dt_model::Locator;
 
 /// One item of a run: the reset of a workspace, or the visit of a leaf.
@@ -90,19 +90,30 @@ pub fn advanced<L: Locator>(
     path: &[u32],
     progress: Progress,
     slots: &mut [u32],
+    values: &mut [Option<u32>],
 ) -> Progress
-    requires { CanGoOn (L.tensors against.now.loc.now) (seen against.now.parts.now) path.now slots.old progress }
+    requires on { CanGoOn (L.tensors against.now.loc.now) (seen against.now.parts.now) path.now slots.old progress }
+    requires values { length values.old ≡ length against.now.parts.now.names }
     ensures sound { IsSound (L.tensors against.now.loc.now) (seen against.now.parts.now) path.now slots.new result }
     ensures moves { Moves (run_tests (L.tensors against.now.loc.now) (seen against.now.parts.now)) (tree_of against.now.parts.now.nest) path.now (left_of (run_tests (L.tensors against.now.loc.now) (seen against.now.parts.now)) (tree_of against.now.parts.now.nest) path.now slots.old progress) slots.new result }
+    ensures values { length values.new ≡ length values.old }
 {
     let nest = &against.parts.nest;
     match progress {
-        Progress::Before => match first(nest, &Naming::Root, against, path, slots) {
+        Progress::Before => match first(nest, &Naming::Root, against, path, slots, values) {
             None => Progress::Done,
             Some(leaf) => arrival(nest, leaf, 0),
         },
         Progress::Resetting { leaf, past, .. } => arrival(nest, leaf, past),
-        Progress::On { leaf } => match next_visit(nest, &Naming::Root, against, path, leaf, slots) {
+        Progress::On { leaf } => match next_visit(
+            nest,
+            &Naming::Root,
+            against,
+            path,
+            leaf,
+            slots,
+            values,
+        ) {
             None => Progress::Done,
             Some(stand) => arrival(nest, stand.leaf, stand.past),
         },

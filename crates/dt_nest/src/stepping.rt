@@ -11,9 +11,11 @@ ghost use Rattle.dt_nest.specs.Tables.{IsSplitVar, IsTable};
 ghost use Rattle.dt_nest.specs.Wheels.{AreWheels};
 ghost use Rattle.dt_nest.specs.Run.{CanGoOn, IsKept, IsSound, Moves, StepIs, left_of, run_tests};
 
+use crate::against::Against;
+use crate::knowing::hold;
+use crate::naming::Unrenamed;
 use crate::progress::{Progress, advanced};
-use crate::tables::{fill_derived, fill_derived_slots, fill_slots, hold};
-use crate::values::Against;
+use crate::tables::{Table, fill_derived, fill_derived_slots, tabulate};
 use crate::wheels::{Wheels, turn};
 use dt_model::Locator;
 
@@ -57,9 +59,9 @@ fn searched<L: Locator>(
     ensures moves { Moves (run_tests (L.tensors against.now.loc.now) (seen against.now.parts.now)) (tree_of against.now.parts.now.nest) path.now (left_of (run_tests (L.tensors against.now.loc.now) (seen against.now.parts.now)) (tree_of against.now.parts.now.nest) path.now slots.old progress) slots.new result }
     ensures kept { IsKept (L.tensors against.now.loc.now) (seen against.now.parts.now) path.now slots.new result wheels.now values.new }
 {
-    let next = advanced(against, path, progress, slots);
+    let next = advanced(against, path, progress, slots, values);
     if next.is_on(wheels.leaf) {
-        tabulate(against, slots, values);
+        tabulate(against.parts, against.loc, &Unrenamed, slots, values);
     }
     next
 }
@@ -77,9 +79,9 @@ fn turned<L: Locator>(
     requires values { length values.old ≡ length against.now.parts.now.names }
     requires wheels { AllByRecursion (λ w. w.var < length slots.old) wheels.now.items.items }
     requires splits { OnTrue wheels.now.splits (AllByRecursion (IsSplitVar against.now.parts.now.derived) wheels.now.guards.items) }
-    requires table { IsTable (world_of (L.tensors against.now.loc.now) (seen against.now.parts.now)) against.now.parts.now.derived slots.old values.old }
+    requires table { IsTable (world_of (L.tensors against.now.loc.now) (seen against.now.parts.now)) against.now.parts.now.derived (λ u. u) slots.old values.old }
     ensures steps { StepIs (run_tests (L.tensors against.now.loc.now) (seen against.now.parts.now)) wheels.now slots.old slots.new result }
-    ensures table { OnTrue result (IsTable (world_of (L.tensors against.now.loc.now) (seen against.now.parts.now)) against.now.parts.now.derived slots.new values.new) }
+    ensures table { OnTrue result (IsTable (world_of (L.tensors against.now.loc.now) (seen against.now.parts.now)) against.now.parts.now.derived (λ u. u) slots.new values.new) }
     ensures room { length slots.new ≡ length slots.old }
     ensures values { length values.new ≡ length values.old }
 {
@@ -89,23 +91,13 @@ fn turned<L: Locator>(
     let parts = against.parts;
     let derived = parts.derived.as_slice();
     fill_derived_slots(derived, slots, values);
-    let full = fill_derived(derived, parts, against.loc, slots, values);
+    let full = fill_derived(derived, parts, against.loc, &Unrenamed, slots, values);
     if full && wheels.splits {
         return true;
     }
-    hold(wheels.guards.as_slice(), parts.extents.as_slice(), values)
-}
-
-/// Makes the values of all variables, from the slots.
-fn tabulate<L: Locator>(against: &Against<L>, slots: &[u32], values: &mut [Option<u32>])
-    requires named { AreNamed (seen against.now.parts.now) against.now.parts.now.derived }
-    requires tensors { length (L.tensors against.now.loc.now) ≡ length against.now.parts.now.tensors }
-    requires room { length slots.now ≡ length against.now.parts.now.names }
-    requires values { length values.old ≡ length against.now.parts.now.names }
-    ensures table { IsTable (world_of (L.tensors against.now.loc.now) (seen against.now.parts.now)) against.now.parts.now.derived slots.now values.new }
-    ensures values { length values.new ≡ length values.old }
-{
-    let parts = against.parts;
-    fill_slots(slots, values);
-    fill_derived(parts.derived.as_slice(), parts, against.loc, slots, values);
+    let known = Table {
+        names: &Unrenamed,
+        values,
+    };
+    hold(wheels.guards.as_slice(), parts.extents.as_slice(), &known)
 }

@@ -2,23 +2,25 @@
 
 ghost use Rattle.std.specs.Prelude.{◌≡◌, ◌<◌, ◌%◌, ◌&&◌, ℕ, Some, is_some, true, false, length, option_map, slice_index};
 ghost use Rattle.std.specs.Bool.{OnTrue};
-ghost use Rattle.std.specs.List.{AllByRecursion, list_all};
+ghost use Rattle.std.specs.List.{AllByRecursion};
 ghost use Rattle.dt_nest.specs.Schedule.{seen};
 ghost use Rattle.dt_nest.specs.World.{world_of};
-ghost use Rattle.dt_nest.specs.Lawful.{AreNamed, IsBounded, is_replaced, sources};
-ghost use Rattle.dt_nest.specs.Values.{derived_inside, is_below, sum_inside};
+ghost use Rattle.dt_nest.specs.Lawful.{AreNamed, IsBounded, is_replaced};
+ghost use Rattle.dt_nest.specs.Values.{derived_inside, sum_inside};
 ghost use Rattle.dt_nest.specs.Tables.{IsTable, tabled};
 
 use crate::derivations::{Derive, Derived};
+use crate::knowing::Known;
+use crate::naming::Renaming;
 use crate::parts::SchedParts;
-use crate::values::{coordinate, number_at, quotient, rest_of, split_value};
+use crate::values::{coordinate, quotient, rest_of, split_value};
 use dt_model::Locator;
 
-/// The value of a variable, and 0 past the last.
-pub fn tabled(values: &[Option<u32>], u: u32) -> Option<u32>
-    ensures { result ≡ tabled values.now u }
+/// The value under a name, and 0 past the last.
+pub fn tabled(values: &[Option<u32>], name: u32) -> Option<u32>
+    ensures { result ≡ tabled values.now name }
 {
-    let at = u as usize;
+    let at = name as usize;
     if at < values.len() {
         values[at]
     } else {
@@ -26,19 +28,38 @@ pub fn tabled(values: &[Option<u32>], u: u32) -> Option<u32>
     }
 }
 
-#[tactic(auto, using(crate::proofs::Rotated::sums))]
+/// The values of variables, by their names at a place.
+#[derive(Drop)]
+pub struct Table<'a, N: Renaming> {
+    pub names: &'a N,
+    pub values: &'a [Option<u32>],
+}
+
+impl<N: Renaming> Known for Table<'_, N> {
+    ghost use Rattle.dt_nest.specs.Tables.{tabled};
+
+    ghost ready = { λ t. Unit {0} };
+
+    ghost values = { λ t u. tabled t.values.now (N.names t.names.now u) };
+
+    fn value_at(&self, u: u32) -> Option<u32> {
+        tabled(self.values, self.names.name_of(u))
+    }
+}
+
 /// The value that a derivation gives, from the values of what it names.
-fn derived_from<L: Locator>(
+#[tactic(auto, using(crate::proofs::Rotated::sums))]
+fn derived_from<L: Locator, K: Known>(
     how: &Derive,
     v: u32,
     parts: &SchedParts,
     loc: &L,
-    values: &[Option<u32>],
+    known: &K,
 ) -> Option<u32>
+    requires ready { K.ready known.now }
     requires bounded { IsBounded (seen parts.now) v how.now }
-    requires within { AllByRecursion (λ u. u < length values.now) (sources how.now) }
     requires tensors { length (L.tensors loc.now) ≡ length parts.now.tensors }
-    ensures { result ≡ derived_inside (world_of (L.tensors loc.now) (seen parts.now)) v how.now (tabled values.now) }
+    ensures { result ≡ derived_inside (world_of (L.tensors loc.now) (seen parts.now)) v how.now (K.values known.now) }
 {
     match how {
         Derive::Split {
@@ -46,41 +67,42 @@ fn derived_from<L: Locator>(
             inner,
             factor,
         } => {
-            let x = values[*outer as usize]?;
-            let y = values[*inner as usize]?;
+            let x = known.value_at(*outer)?;
+            let y = known.value_at(*inner)?;
             split_value(parts, v, x, y, *factor)
         }
         Derive::Quotient { fused, by } => {
-            let x = tabled(values, *fused)?;
+            let x = known.value_at(*fused)?;
             Some(quotient(x, *by))
         }
         Derive::Rest { fused, by } => {
-            let x = tabled(values, *fused)?;
+            let x = known.value_at(*fused)?;
             Some(rest_of(x, *by))
         }
         Derive::Rotate { base, by, extent } => {
-            let x = tabled(values, *base)?;
-            rotated_from(x, by.as_slice(), (*extent).max(1), values)
+            let x = known.value_at(*base)?;
+            rotated_from(x, by.as_slice(), (*extent).max(1), known)
         }
         Derive::Pos {
             tensor,
             level,
             base,
         } => {
-            let x = tabled(values, *base)?;
+            let x = known.value_at(*base)?;
             Some(coordinate(loc, *tensor, *level, x))
         }
     }
 }
 
 /// The sum of a number and the values of loops modulo an extent.
-fn rotated_from(start: u32, by: &[u32], extent: u32, values: &[Option<u32>]) -> Option<u32>
-    requires { 0 < extent }
-    ensures { result ≡ option_map (λ x. x % extent) (sum_inside (tabled values.now) (Some start) by.now) }
+fn rotated_from<K: Known>(start: u32, by: &[u32], extent: u32, known: &K) -> Option<u32>
+    requires ready { K.ready known.now }
+    requires some { 0 < extent }
+    ensures { result ≡ option_map (λ x. x % extent) (sum_inside (K.values known.now) (Some start) by.now) }
 {
     let mut sum = start % extent;
     for u in by {
-        match tabled(values, *u) {
+        match known.value_at(*u) {
             None => return None,
             Some(x) => sum = ((u64::from(sum) + u64::from(x)) % u64::from(extent)) as u32,
         }
@@ -88,8 +110,8 @@ fn rotated_from(start: u32, by: &[u32], extent: u32, values: &[Option<u32>]) -> 
     Some(sum)
 }
 
-/// Gives each variable of a table the number in its slot.
-pub fn fill_slots(slots: &[u32], values: &mut [Option<u32>])
+/// Gives each name of a table the number in its slot.
+fn fill_slots(slots: &[u32], values: &mut [Option<u32>])
     requires { length values.old ≡ length slots.now }
     ensures values { (u : ℕ) → tabled values.new u ≡ Some (slice_index slots.now u) }
     ensures length { length values.new ≡ length values.old }
@@ -121,10 +143,11 @@ fn both(a: bool, b: bool) -> bool
 
 /// Gives the derived variables of a table their values, where it has the numbers in the slots, and tells whether each has
 /// one. The last derivation is the first to be done: what a derivation names is replaced by a later one.
-pub fn fill_derived<L: Locator>(
+pub fn fill_derived<L: Locator, N: Renaming>(
     derived: &[Derived],
     parts: &SchedParts,
     loc: &L,
+    names: &N,
     slots: &[u32],
     values: &mut [Option<u32>],
 ) -> bool
@@ -132,7 +155,7 @@ pub fn fill_derived<L: Locator>(
     requires tensors { length (L.tensors loc.now) ≡ length parts.now.tensors }
     requires room { length values.old ≡ length parts.now.names }
     requires values { (u : ℕ) → tabled values.old u ≡ Some (slice_index slots.now u) }
-    ensures table { IsTable (world_of (L.tensors loc.now) (seen parts.now)) derived.now slots.now values.new }
+    ensures table { IsTable (world_of (L.tensors loc.now) (seen parts.now)) derived.now (N.names names.now) slots.now values.new }
     ensures full { OnTrue result ((u : ℕ) → is_some (tabled values.new u) ≡ true) }
     ensures length { length values.new ≡ length values.old }
 {
@@ -142,28 +165,29 @@ pub fn fill_derived<L: Locator>(
         k -= 1;
         let d = &derived[k];
         let at = d.var as usize;
-        let value = derived_from(&d.how, d.var, parts, loc, values);
+        let known = Table { names, values };
+        let value = derived_from(&d.how, d.var, parts, loc, &known);
         full = both(full, value.is_some());
         values[at] = value;
     }
     full
 }
 
-/// Whether guards are below their extents, and no variable on the way to them outside.
-pub fn hold(guards: &[u32], extents: &[u32], values: &[Option<u32>]) -> bool
-    ensures { result ≡ list_all (λ g. is_below (slice_index extents.now g) (tabled values.now g)) guards.now }
+/// Makes the values of all variables, from the slots.
+pub fn tabulate<L: Locator, N: Renaming>(
+    parts: &SchedParts,
+    loc: &L,
+    names: &N,
+    slots: &[u32],
+    values: &mut [Option<u32>],
+)
+    requires named { AreNamed (seen parts.now) parts.now.derived }
+    requires tensors { length (L.tensors loc.now) ≡ length parts.now.tensors }
+    requires room { length slots.now ≡ length parts.now.names }
+    requires values { length values.old ≡ length parts.now.names }
+    ensures table { IsTable (world_of (L.tensors loc.now) (seen parts.now)) parts.now.derived (N.names names.now) slots.now values.new }
+    ensures values { length values.new ≡ length values.old }
 {
-    guards
-        .iter()
-        .all(|g| is_below(number_at(extents, *g), tabled(values, *g)))
-}
-
-/// Whether there is a number below a bound.
-fn is_below(bound: u32, value: Option<u32>) -> bool
-    ensures { result ≡ is_below bound value }
-{
-    match value {
-        None => false,
-        Some(x) => x < bound,
-    }
+    fill_slots(slots, values);
+    fill_derived(parts.derived.as_slice(), parts, loc, names, slots, values);
 }

@@ -1,22 +1,18 @@
-//! The values of variables on the way to a visit.
+//! The values of variables on the way to a visit, each sought by itself.
 
-ghost use Rattle.std.specs.Prelude.{◌≡◌, ◌<◌, ◌+◌, ◌*◌, ◌%◌, ◌/◌, ◌≤◌, nat_eq, Some, option_map, length, slice_index};
+ghost use Rattle.std.specs.Prelude.{◌≡◌, ◌<◌, ◌+◌, ◌*◌, ◌%◌, ◌/◌, Some, option_map, length, slice_index};
 ghost use Rattle.dt_model.specs.Positions.{StoredTensor};
 ghost use Rattle.dt_nest.specs.Schedule.{seen};
-ghost use Rattle.dt_nest.specs.Meaning.{renamed, take_through};
+ghost use Rattle.dt_nest.specs.Meaning.{renamed};
 ghost use Rattle.dt_nest.specs.World.{coordinate_at, world_of};
 ghost use Rattle.dt_nest.specs.Lawful.{AreNamed, IsBounded};
 ghost use Rattle.dt_nest.specs.Naming.{pairs_in};
-ghost use Rattle.dt_nest.specs.Odometer.{guards_of};
-ghost use Rattle.dt_nest.specs.Tree.{tree_of};
-ghost use Rattle.dt_nest.specs.Values.{bounded, inside, inside_in, derived_inside, sum_inside, all_inside, guard_inside, takes_inside, inside_tests};
-ghost use Rattle.dt_nest.specs.Prefix.{Filled};
+ghost use Rattle.dt_nest.specs.Values.{bounded, inside, derived_inside, sum_inside};
 
 use crate::derivations::{Derive, Derived};
+use crate::knowing::Known;
 use crate::lanes::Slots;
-use crate::loops::{Nest, Walk};
 use crate::naming::Naming;
-use crate::odometer::Testing;
 use crate::parts::SchedParts;
 use dt_model::Locator;
 
@@ -189,151 +185,35 @@ fn rotated<L: Locator>(
     Some(sum)
 }
 
-/// Puts the values of the variables of a walked access up to its loop into an array, from a place on. The answer is the
-/// place behind them, and none where a variable is outside.
-fn prefix<L: Locator>(
-    vars: &[u32],
-    var: u32,
-    parts: &SchedParts,
-    loc: &L,
-    naming: &Naming,
-    slots: &Slots,
-    at: usize,
-    coords: &mut [u32],
-) -> Option<usize>
-    requires named { AreNamed (seen parts.now) parts.now.derived }
-    requires tensors { length (L.tensors loc.now) ≡ length parts.now.tensors }
-    requires room { at + length vars.now ≤ length coords.old }
-    ensures { Filled (all_inside (inside_in (world_of (L.tensors loc.now) (seen parts.now)) parts.now.derived (pairs_in naming.now) slots.now) (take_through (λ u. nat_eq (renamed (pairs_in naming.now) u) var) vars.now)) at coords.old coords.new result }
-{
-    match vars.split_first() {
-        None => Some(at),
-        Some((u, rest)) => {
-            let name = naming.name(*u);
-            match value(parts.derived.as_slice(), parts, loc, naming, slots, name) {
-                None => None,
-                Some(x) => {
-                    coords[at] = x;
-                    if name == var {
-                        return Some(at + 1);
-                    }
-                    prefix(rest, var, parts, loc, naming, slots, at + 1, coords)
-                }
-            }
-        }
-    }
-}
-
-/// Whether a guard is below its extent, and no variable on the way to it outside.
-fn is_inside<L: Locator>(
-    parts: &SchedParts,
-    loc: &L,
-    naming: &Naming,
-    slots: &Slots,
-    guard: u32,
-) -> bool
-    requires named { AreNamed (seen parts.now) parts.now.derived }
-    requires tensors { length (L.tensors loc.now) ≡ length parts.now.tensors }
-    ensures { result ≡ guard_inside (world_of (L.tensors loc.now) (seen parts.now)) (inside_in (world_of (L.tensors loc.now) (seen parts.now)) parts.now.derived (pairs_in naming.now) slots.now) guard }
-{
-    match value(
-        parts.derived.as_slice(),
-        parts,
-        loc,
-        naming,
-        slots,
-        naming.name(guard),
-    ) {
-        None => false,
-        Some(x) => x < number_at(parts.extents.as_slice(), guard),
-    }
-}
-
-/// Whether a walked loop takes its value.
-fn takes_stored<L: Locator>(
-    walk: &Walk,
-    var: u32,
-    parts: &SchedParts,
-    loc: &L,
-    naming: &Naming,
-    slots: &Slots,
-) -> bool
-    requires named { AreNamed (seen parts.now) parts.now.derived }
-    requires tensors { length (L.tensors loc.now) ≡ length parts.now.tensors }
-    ensures { result ≡ takes_inside (world_of (L.tensors loc.now) (seen parts.now)) (Some walk.now) var (renamed (pairs_in naming.now)) (inside_in (world_of (L.tensors loc.now) (seen parts.now)) parts.now.derived (pairs_in naming.now) slots.now) }
-{
-    let vars = walk.vars.as_slice();
-    if walk.tensor as usize >= parts.tensors.as_slice().len() || vars.len() > 4 {
-        return false;
-    }
-    let mut coords = [0u32; 4];
-    match prefix(vars, var, parts, loc, naming, slots, 0, &mut coords) {
-        None => false,
-        Some(count) => loc.has_prefix(walk.tensor, &coords[..count]),
-    }
-}
-
-/// The parts of a schedule against tensors: the tests of its visits.
+/// The values at a place, each sought when it is asked for.
 #[derive(Drop)]
-pub struct Against<'s, L: Locator> {
-    pub parts: &'s SchedParts,
-    pub loc: &'s L,
+pub struct Sought<'a, L: Locator> {
+    pub parts: &'a SchedParts,
+    pub loc: &'a L,
+    pub naming: &'a Naming<'a>,
+    pub slots: &'a Slots<'a>,
 }
 
-impl<L: Locator> Against<'_, L> {
-    /// Whether a loop takes its value.
-    pub fn takes_at(&self, walk: &Option<Walk>, var: u32, naming: &Naming, slots: &Slots) -> bool
-        requires named { AreNamed (seen self.now.parts.now) self.now.parts.now.derived }
-        requires tensors { length (L.tensors self.now.loc.now) ≡ length self.now.parts.now.tensors }
-        ensures { result ≡ (inside_tests (world_of (L.tensors self.now.loc.now) (seen self.now.parts.now)) self.now.parts.now.derived).takes walk.now var (pairs_in naming.now) slots.now }
-    {
-        match walk {
-            None => true,
-            Some(walk) => takes_stored(walk, var, self.parts, self.loc, naming, slots),
-        }
-    }
-
-    /// Whether guards hold.
-    pub fn holds_at(&self, guards: &[u32], naming: &Naming, slots: &Slots) -> bool
-        requires named { AreNamed (seen self.now.parts.now) self.now.parts.now.derived }
-        requires tensors { length (L.tensors self.now.loc.now) ≡ length self.now.parts.now.tensors }
-        ensures { result ≡ (inside_tests (world_of (L.tensors self.now.loc.now) (seen self.now.parts.now)) self.now.parts.now.derived).holds guards.now (pairs_in naming.now) slots.now }
-    {
-        guards
-            .iter()
-            .all(|g| is_inside(self.parts, self.loc, naming, slots, *g))
-    }
-
-    /// Whether the guards of a leaf hold.
-    pub fn holds_in(&self, leaf: &Nest, naming: &Naming, slots: &Slots) -> bool
-        requires named { AreNamed (seen self.now.parts.now) self.now.parts.now.derived }
-        requires tensors { length (L.tensors self.now.loc.now) ≡ length self.now.parts.now.tensors }
-        ensures { result ≡ (inside_tests (world_of (L.tensors self.now.loc.now) (seen self.now.parts.now)) self.now.parts.now.derived).holds (guards_of (tree_of leaf.now)) (pairs_in naming.now) slots.now }
-    {
-        match leaf {
-            Nest::Loop { .. } => true,
-            Nest::Pre { .. } => true,
-            Nest::Leaf { guards, .. } => self.holds_at(guards.as_slice(), naming, slots),
-        }
-    }
-}
-
-impl<L: Locator> Testing for Against<'_, L> {
+impl<L: Locator> Known for Sought<'_, L> {
     ghost use Rattle.std.specs.Prelude.{◌≡◌, length};
     ghost use Rattle.dt_nest.specs.Schedule.{seen};
     ghost use Rattle.dt_nest.specs.World.{world_of};
+    ghost use Rattle.dt_nest.specs.Naming.{pairs_in};
     ghost use Rattle.dt_nest.specs.Lawful.{AreNamed};
-    ghost use Rattle.dt_nest.specs.Values.{inside_tests};
-
-    ghost tests = { λ a. inside_tests (world_of (L.tensors a.loc.now) (seen a.parts.now)) a.parts.now.derived };
+    ghost use Rattle.dt_nest.specs.Values.{inside_in};
 
     ghost ready = { λ a. AreNamed (seen a.parts.now) a.parts.now.derived × (length (L.tensors a.loc.now) ≡ length a.parts.now.tensors) };
 
-    fn takes(&self, walk: &Option<Walk>, var: u32, naming: &Naming, slots: &[u32]) -> bool {
-        self.takes_at(walk, var, naming, &Slots::of(slots))
-    }
+    ghost values = { λ a u. inside_in (world_of (L.tensors a.loc.now) (seen a.parts.now)) a.parts.now.derived (pairs_in a.naming.now) a.slots.now u };
 
-    fn holds(&self, guards: &[u32], naming: &Naming, slots: &[u32]) -> bool {
-        self.holds_at(guards, naming, &Slots::of(slots))
+    fn value_at(&self, u: u32) -> Option<u32> {
+        value(
+            self.parts.derived.as_slice(),
+            self.parts,
+            self.loc,
+            self.naming,
+            self.slots,
+            self.naming.name(u),
+        )
     }
 }

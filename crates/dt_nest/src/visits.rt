@@ -6,6 +6,7 @@ ghost use Rattle.dt_nest.specs.FitsStored.{FitsStored};
 ghost use Rattle.dt_nest.specs.Visits.{IsPath};
 ghost use Rattle.dt_nest.specs.Run.{AreAscending, AreValued, Goes, HasLaneValue, HasValue, IsAtLeaf, IsExtent, IsLaneValue, IsLeafOf, IsValue, OnLanes, OnVisit, SameNest, answer_of, is_among, run_over};
 
+use crate::against::Against;
 use crate::branches::{Substituted, is_valid_at, leaf_of, substituted_of, value_of};
 use crate::lanes::{Lane, Slots};
 use crate::loops::Nest;
@@ -14,7 +15,6 @@ use crate::progress::{Progress, Visit};
 use crate::schedules::Sched;
 use crate::stepping::stepped;
 use crate::tables::tabled;
-use crate::values::Against;
 use crate::wheels::Wheels;
 use dt_base::NoMemory;
 use dt_model::Locator;

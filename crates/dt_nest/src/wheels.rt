@@ -5,6 +5,7 @@ ghost use Rattle.std.specs.Bool.{OnFalse, OnTrue};
 ghost use Rattle.std.specs.List.{AllByRecursion};
 ghost use Rattle.dt_nest.specs.Tree.{leaf_count, tree_of};
 ghost use Rattle.dt_nest.specs.Schedule.{seen};
+ghost use Rattle.dt_nest.specs.Lawful.{is_split};
 ghost use Rattle.dt_nest.specs.Tables.{IsSplitVar};
 ghost use Rattle.dt_nest.specs.Wheels.{AreWheels, is_plain, last_guards, last_wheels, turned, wheels_of};
 
@@ -49,35 +50,41 @@ impl Wheels {
     }
 }
 
+/// Whether a derivation is that of a split.
+fn splits(how: &Derive) -> bool
+    ensures { result ≡ is_split how.now }
+{
+    match how {
+        Derive::Split { .. } => true,
+        Derive::Quotient { .. } => false,
+        Derive::Rest { .. } => false,
+        Derive::Rotate { .. } => false,
+        Derive::Pos { .. } => false,
+    }
+}
+
 /// Whether a variable is one of a split.
-fn is_split(derived: &[Derived], v: u32) -> bool
+fn is_split_var(derived: &[Derived], v: u32) -> bool
     ensures { OnTrue result (IsSplitVar derived.now v) }
 {
-    match derived.split_first() {
-        None => false,
-        Some((first, rest)) => {
-            if v != first.var {
-                return is_split(rest, v);
-            }
-            match first.how {
-                Derive::Split { .. } => true,
-                Derive::Quotient { .. } => false,
-                Derive::Rest { .. } => false,
-                Derive::Rotate { .. } => false,
-                Derive::Pos { .. } => false,
-            }
+    for d in derived {
+        if d.var == v {
+            return splits(&d.how);
         }
     }
+    false
 }
 
 /// Whether each variable is one of a split.
 fn are_split(derived: &[Derived], vars: &[u32]) -> bool
     ensures { OnTrue result (AllByRecursion (IsSplitVar derived.now) vars.now) }
 {
-    match vars.split_first() {
-        None => true,
-        Some((v, rest)) => is_split(derived, *v) && are_split(derived, rest),
+    for v in vars {
+        if !is_split_var(derived, *v) {
+            return false;
+        }
     }
+    true
 }
 
 /// Whether a nest is a leaf in loops that are neither walked nor substituted.

@@ -10,15 +10,15 @@ use Rattle.std.proofs.Math.ListN.{length-set}
 use Rattle.std.specs.List.{list_any, range_with_len}
 use Rattle.dt_nest.proofs.odometer.+first.Goals as goal
 
-pub first-returns-then-has_lane : goal.first-returns-then-has_lane
-first-returns-then-has_lane g t c =
+pub first-returns-then-has_lane-clause-finds : goal.first-returns-then-has_lane-clause-finds
+first-returns-then-has_lane-clause-finds g t c =
     loop_lanes (g.T.Testing.tests c.args.tests.now) (tree_of c.args.nest.now) c.in-Loop.walk c.in-Loop.var c.in-Loop.extent (tree_of c.in-Loop.body.value) (tree_of c.deref.result.now) (pairs_in c.args.naming.now) c.args.path.now c.args.slots.now c.has_lane.new.slots
     (ap tree_of c.in-Loop.is) (ap tree_of c.deref.ensures) (sym c.has_kernel.ensures ∙ c.if-has_kernel.true) c.requires.zero c.has_lane.result
     (c.has_lane.ensures.found ∙ ap (λ b. list_any (is_valid (g.T.Testing.tests c.args.tests.now) c.in-Loop.walk c.in-Loop.var (guards_of (tree_of b)) (pairs_in c.args.naming.now) c.args.slots.now) (range_with_len 0 c.in-Loop.extent)) (c.deref-then-has_kernel.ensures ∙ sym c.deref.ensures))
     c.if-has_lane.true c.has_lane.ensures.slots
 
-pub first-returns-else-has_lane : goal.first-returns-else-has_lane
-first-returns-else-has_lane g t c =
+pub first-returns-else-has_lane-clause-finds : goal.first-returns-else-has_lane-clause-finds
+first-returns-else-has_lane-clause-finds g t c =
     loop_no_lanes (g.T.Testing.tests c.args.tests.now) (tree_of c.args.nest.now) c.in-Loop.walk c.in-Loop.var c.in-Loop.extent (tree_of c.in-Loop.body.value) (tree_of c.deref.result.now) (pairs_in c.args.naming.now) c.args.path.now c.args.slots.now c.has_lane.new.slots
     (ap tree_of c.in-Loop.is) (ap tree_of c.deref.ensures) (sym c.has_kernel.ensures ∙ c.if-has_kernel.true) c.has_lane.result
     (c.has_lane.ensures.found ∙ ap (λ b. list_any (is_valid (g.T.Testing.tests c.args.tests.now) c.in-Loop.walk c.in-Loop.var (guards_of (tree_of b)) (pairs_in c.args.naming.now) c.args.slots.now) (range_with_len 0 c.in-Loop.extent)) (c.deref-then-has_kernel.ensures ∙ sym c.deref.ensures))
@@ -31,27 +31,27 @@ first-overflow_add-x g t c =
     let k : c.in-Some.x.now < c.in-Loop.extent = l.0 in
     omega arith
 
-pub first-returns-in-None : goal.first-returns-in-None
-first-returns-in-None g t c =
+pub first-returns-in-None-clause-finds : goal.first-returns-in-None-clause-finds
+first-returns-in-None-clause-finds g t c =
     let none : length c.args.path.now ≡ 0 = search rules in
     let p : c.args.path.now ≡ [] = nil_of c.args.path.now none in
     loop_whole _ _ _ _ _ (tree_of c.in-Loop.body.value) _ _ _ _ _ (ap tree_of c.in-Loop.is) (ap tree_of c.deref-in-None.ensures) _
-    (ap (λ b. is_kernel_leaf (tree_of b)) (c.deref-in-None.ensures ∙ sym c.deref.ensures) ∙ sym c.has_kernel.ensures ∙ c.if-has_kernel.false) p c.first_from.ensures
+    (ap (λ b. is_kernel_leaf (tree_of b)) (c.deref-in-None.ensures ∙ sym c.deref.ensures) ∙ sym c.has_kernel.ensures ∙ c.if-has_kernel.false) p c.first_from.ensures.finds
 
-pub first-returns-in-Some : goal.first-returns-in-Some
-first-returns-in-Some g t c =
+pub first-returns-in-Some-clause-finds : goal.first-returns-in-Some-clause-finds
+first-returns-in-Some-clause-finds g t c =
     let p : c.args.path.now ≡ c.in-Some.x.now ∷ c.in-Some.rest.now = search rules in
     loop_one _ _ _ _ _ (tree_of c.in-Loop.body.value) _ _ _ _ _ (ap tree_of c.in-Loop.is) (ap tree_of c.deref-in-Some.ensures) _ c.in-Some.x.now c.in-Some.rest.now
-    (ap (λ b. is_kernel_leaf (tree_of b)) (c.deref-in-Some.ensures ∙ sym c.deref.ensures) ∙ sym c.has_kernel.ensures ∙ c.if-has_kernel.false) p c.requires.path c.first_from-in-Some.ensures
+    (ap (λ b. is_kernel_leaf (tree_of b)) (c.deref-in-Some.ensures ∙ sym c.deref.ensures) ∙ sym c.has_kernel.ensures ∙ c.if-has_kernel.false) p c.requires.path c.first_from-in-Some.ensures.finds
 
-pub first-returns-in-Some-first : goal.first-returns-in-Some-first
-first-returns-in-Some-first g t c =
-    pre_first _ _ c.in-Pre.work c.in-Pre.pairs c.as_slice.result.now (tree_of c.in-Pre.producer.value) (tree_of c.in-Pre.consumer.value) (tree_of c.deref-in-Pre.result.now) (tree_of c.in-Pre.consumer.value) _ _ _ _ (ap tree_of c.in-Pre.is) c.as_slice.ensures (ap tree_of c.deref-in-Pre.ensures) refl c.requires.room c.requires.zero _ c.in-Some-first.ensures
+pub first-returns-in-Some-first-clause-finds : goal.first-returns-in-Some-first-clause-finds
+first-returns-in-Some-first-clause-finds g t c =
+    pre_first _ _ c.in-Pre.work c.in-Pre.pairs c.as_slice.result.now (tree_of c.in-Pre.producer.value) (tree_of c.in-Pre.consumer.value) (tree_of c.deref-in-Pre.result.now) (tree_of c.in-Pre.consumer.value) _ _ _ _ (ap tree_of c.in-Pre.is) c.as_slice.ensures (ap tree_of c.deref-in-Pre.ensures) refl c.requires.room c.requires.zero _ c.in-Some-first.ensures.finds
 
-pub first-returns-in-Some-first-2 : goal.first-returns-in-Some-first-2
-first-returns-in-Some-first-2 g t c =
+pub first-returns-in-Some-first-2-clause-finds : goal.first-returns-in-Some-first-2-clause-finds
+first-returns-in-Some-first-2-clause-finds g t c =
     pre_second _ _ c.in-Pre.work c.in-Pre.pairs c.as_slice.result.now (tree_of c.in-Pre.producer.value) (tree_of c.in-Pre.consumer.value) (tree_of c.deref-in-Pre.result.now) (tree_of c.deref-in-Pre-2.result.now) _ _ _ _ (ap tree_of c.in-Pre.is) c.as_slice.ensures (ap tree_of c.deref-in-Pre.ensures) (ap tree_of c.deref-in-Pre-2.ensures) c.requires.room c.requires.zero c.first.new.slots _ c.in-Some-first-2.leaf
-    (ap (λ b. leaf_count (tree_of b) + c.in-Some-first-2.leaf) (sym c.deref-in-Some-first-2.ensures) ∙ ap (λ (k : ℕ). k + c.in-Some-first-2.leaf) (sym c.leaves.ensures)) c.in_default.ensures c.in-Some-first-2.ensures
+    (ap (λ b. leaf_count (tree_of b) + c.in-Some-first-2.leaf) (sym c.deref-in-Some-first-2.ensures) ∙ ap (λ (k : ℕ). k + c.in-Some-first-2.leaf) (sym c.leaves.ensures)) c.in_default.ensures.finds c.in-Some-first-2.ensures.finds
 
 pub first_from-enter-requires : goal.first_from-enter-requires
 first_from-enter-requires g t c κs within = (
@@ -68,8 +68,10 @@ first_from-enter-requires g t c κs within = (
   ),
 )
 
-pub first_from-returns-in-Some : goal.first_from-returns-in-Some
-first_from-returns-in-Some g t c = found_from _ _ _ _ _ _ _ _ _ _ _ _ _ c.loop-i.invariant.0 c.loop-i.invariant.1 c.loop-i.auto.i c.loop-i-test.true c.requires.room.0 c.requires.room.1 c.requires.zero.0 c.in-Some.ensures
+pub first_from-returns-in-Some-clause-finds : goal.first_from-returns-in-Some-clause-finds
+first_from-returns-in-Some-clause-finds g t c = found_from _ _ _ _ _ _ _ _ _ _ _ _ _ c.loop-i.invariant.0 c.loop-i.invariant.1 c.loop-i.auto.i c.loop-i-test.true c.requires.room.0 c.requires.room.1 c.requires.zero.0 c.in-Some.ensures.enters
 
 pub first_from-loop-i-preserved : goal.first_from-loop-i-preserved
-first_from-loop-i-preserved g t c = none_at (g.T.Testing.tests c.args.tests.now) c.args.walk.now c.args.var (tree_of c.args.body.now) (pairs_in c.args.naming.now) c.args.path.now c.args.from c.loop-i.i c.args.slots.now c.loop-i.slots c.enter.new.slots c.loop-i.invariant.0 c.loop-i.invariant.1 c.loop-i.auto.i c.requires.zero.0 c.in_default.ensures
+first_from-loop-i-preserved g t c =
+    let h = none_at (g.T.Testing.tests c.args.tests.now) c.args.walk.now c.args.var (tree_of c.args.body.now) (pairs_in c.args.naming.now) c.args.path.now c.args.from c.loop-i.i c.args.slots.now c.loop-i.slots c.enter.new.slots c.loop-i.invariant.0 c.loop-i.invariant.1 c.loop-i.auto.i c.requires.zero.0 c.in_default.ensures.enters in
+    (h.0, h.1, c.in_default.ensures.values ∙ c.loop-i.invariant.2)

@@ -21,7 +21,7 @@ next_visit-requires g t c κs within =
               body_room (g.T.Testing.tests c.args.tests.now) (tree_of c.args.nest.now) c.in-Loop.walk c.in-Loop.var c.in-Loop.extent (tree_of c.in-Loop.body.value) (tree_of c.deref-in-Loop.result.now) (pairs_in c.args.naming.now) c.args.path.now c.below_first-rest.result.now c.args.slots.now c.args.leaf (ap tree_of c.in-Loop.is) (ap tree_of c.deref-in-Loop.ensures) c.below_first-rest.ensures k c.requires.room c.requires.stands,
               (
                 body_stand (g.T.Testing.tests c.args.tests.now) (tree_of c.args.nest.now) c.in-Loop.walk c.in-Loop.var c.in-Loop.extent (tree_of c.in-Loop.body.value) (tree_of c.deref-in-Loop.result.now) (pairs_in c.args.naming.now) c.args.path.now c.below_first-rest.result.now c.args.slots.now c.args.leaf (ap tree_of c.in-Loop.is) (ap tree_of c.deref-in-Loop.ensures) c.below_first-rest.ensures k c.requires.room c.requires.stands,
-                body_path (g.T.Testing.tests c.args.tests.now) (tree_of c.args.nest.now) c.in-Loop.walk c.in-Loop.var c.in-Loop.extent (tree_of c.in-Loop.body.value) (tree_of c.deref-in-Loop.result.now) (pairs_in c.args.naming.now) c.args.path.now c.below_first-rest.result.now c.args.slots.now c.args.leaf (ap tree_of c.in-Loop.is) (ap tree_of c.deref-in-Loop.ensures) c.below_first-rest.ensures k c.requires.room c.requires.stands c.requires.path,
+                (body_path (g.T.Testing.tests c.args.tests.now) (tree_of c.args.nest.now) c.in-Loop.walk c.in-Loop.var c.in-Loop.extent (tree_of c.in-Loop.body.value) (tree_of c.deref-in-Loop.result.now) (pairs_in c.args.naming.now) c.args.path.now c.below_first-rest.result.now c.args.slots.now c.args.leaf (ap tree_of c.in-Loop.is) (ap tree_of c.deref-in-Loop.ensures) c.below_first-rest.ensures k c.requires.room c.requires.stands c.requires.path, (c.requires.slots, c.requires.values)),
               ),
             ),
           ),
@@ -29,15 +29,15 @@ next_visit-requires g t c κs within =
       ),
     )
 
-pub returns-in-Some : goal.returns-in-Some
-returns-in-Some g t c =
+pub returns-in-Some-clause-steps : goal.returns-in-Some-clause-steps
+returns-in-Some-clause-steps g t c =
     let k : is_kernel_leaf (tree_of c.deref-in-Loop.result.now) ≡ false = ap (λ b. is_kernel_leaf (tree_of b)) (c.deref-in-Loop.ensures ∙ sym c.deref.ensures) ∙ sym c.has_kernel.ensures ∙ c.if-has_kernel.false in
-    loop_next _ _ c.in-Loop.walk c.in-Loop.var c.in-Loop.extent (tree_of c.in-Loop.body.value) _ _ _ _ _ _ (ap tree_of c.in-Loop.is) (ap tree_of c.deref-in-Loop.ensures) c.below_first-rest.ensures k c.requires.room c.requires.stands _ _ c.in-Some.ensures
+    loop_next _ _ c.in-Loop.walk c.in-Loop.var c.in-Loop.extent (tree_of c.in-Loop.body.value) _ _ _ _ _ _ (ap tree_of c.in-Loop.is) (ap tree_of c.deref-in-Loop.ensures) c.below_first-rest.ensures k c.requires.room c.requires.stands _ _ c.in-Some.ensures.steps
 
 pub first_from-requires-clause-zero : goal.first_from-requires-clause-zero
 first_from-requires-clause-zero g t c =
     let k : is_kernel_leaf (tree_of c.deref-in-Loop.result.now) ≡ false = ap (λ b. is_kernel_leaf (tree_of b)) (c.deref-in-Loop.ensures ∙ sym c.deref.ensures) ∙ sym c.has_kernel.ensures ∙ c.if-has_kernel.false in
-    let z = over_zero (g.T.Testing.tests c.args.tests.now) (tree_of c.args.nest.now) c.in-Loop.walk c.in-Loop.var c.in-Loop.extent (tree_of c.in-Loop.body.value) (tree_of c.deref-in-Loop.result.now) (pairs_in c.args.naming.now) c.args.path.now c.below_first-rest.result.now c.args.slots.now c.args.leaf (ap tree_of c.in-Loop.is) (ap tree_of c.deref-in-Loop.ensures) c.below_first-rest.ensures k c.requires.room c.requires.stands c.next_visit.new.slots c.in_default.ensures in
+    let z = over_zero (g.T.Testing.tests c.args.tests.now) (tree_of c.args.nest.now) c.in-Loop.walk c.in-Loop.var c.in-Loop.extent (tree_of c.in-Loop.body.value) (tree_of c.deref-in-Loop.result.now) (pairs_in c.args.naming.now) c.args.path.now c.below_first-rest.result.now c.args.slots.now c.args.leaf (ap tree_of c.in-Loop.is) (ap tree_of c.deref-in-Loop.ensures) c.below_first-rest.ensures k c.requires.room c.requires.stands c.next_visit.new.slots c.in_default.ensures.steps in
     (z.0, subst (λ b. AreZero (tree_of b) (slice_set c.next_visit.new.slots c.in-Loop.var 0)) (c.deref-in-Loop.ensures ∙ sym c.deref-in-Loop-2.ensures) z.1)
 
 pub first_from-requires-clause-path : goal.first_from-requires-clause-path
@@ -45,48 +45,48 @@ first_from-requires-clause-path g t c =
     let k : is_kernel_leaf (tree_of c.deref-in-Loop-2.result.now) ≡ false = ap (λ b. is_kernel_leaf (tree_of b)) (c.deref-in-Loop-2.ensures ∙ sym c.deref.ensures) ∙ sym c.has_kernel.ensures ∙ c.if-has_kernel.false in
     body_path (g.T.Testing.tests c.args.tests.now) (tree_of c.args.nest.now) c.in-Loop.walk c.in-Loop.var c.in-Loop.extent (tree_of c.in-Loop.body.value) (tree_of c.deref-in-Loop-2.result.now) (pairs_in c.args.naming.now) c.args.path.now c.below_first-rest.result.now c.args.slots.now c.args.leaf (ap tree_of c.in-Loop.is) (ap tree_of c.deref-in-Loop-2.ensures) c.below_first-rest.ensures k c.requires.room c.requires.stands c.requires.path
 
-pub returns-in-None : goal.returns-in-None
-returns-in-None g t c =
+pub returns-in-None-clause-steps : goal.returns-in-None-clause-steps
+returns-in-None-clause-steps g t c =
     let k : is_kernel_leaf (tree_of c.deref-in-Loop.result.now) ≡ false = ap (λ b. is_kernel_leaf (tree_of b)) (c.deref-in-Loop.ensures ∙ sym c.deref.ensures) ∙ sym c.has_kernel.ensures ∙ c.if-has_kernel.false in
-    loop_next_none _ _ c.in-Loop.walk c.in-Loop.var c.in-Loop.extent (tree_of c.in-Loop.body.value) _ _ _ _ _ _ (ap tree_of c.in-Loop.is) (ap tree_of c.deref-in-Loop.ensures) c.below_first-rest.ensures k c.requires.room c.requires.stands (tree_of c.deref-in-Loop-2.result.now) c.next_visit.new.slots _ c.end_of-to.result (ap tree_of c.deref-in-Loop-2.ensures) c.end_of-to.ensures c.in_default.ensures c.in-None.ensures
+    loop_next_none _ _ c.in-Loop.walk c.in-Loop.var c.in-Loop.extent (tree_of c.in-Loop.body.value) _ _ _ _ _ _ (ap tree_of c.in-Loop.is) (ap tree_of c.deref-in-Loop.ensures) c.below_first-rest.ensures k c.requires.room c.requires.stands (tree_of c.deref-in-Loop-2.result.now) c.next_visit.new.slots _ c.end_of-to.result (ap tree_of c.deref-in-Loop-2.ensures) c.end_of-to.ensures c.in_default.ensures.steps c.in-None.ensures.finds
 
-pub returns-in-Some-first_from : goal.returns-in-Some-first_from
-returns-in-Some-first_from g t c =
+pub returns-in-Some-first_from-clause-steps : goal.returns-in-Some-first_from-clause-steps
+returns-in-Some-first_from-clause-steps g t c =
     let k : is_kernel_leaf (tree_of c.deref-in-Loop.result.now) ≡ false = ap (λ b. is_kernel_leaf (tree_of b)) (c.deref-in-Loop.ensures ∙ sym c.deref.ensures) ∙ sym c.has_kernel.ensures ∙ c.if-has_kernel.false in
-    loop_next_over _ _ c.in-Loop.walk c.in-Loop.var c.in-Loop.extent (tree_of c.in-Loop.body.value) _ _ _ _ _ _ (ap tree_of c.in-Loop.is) (ap tree_of c.deref-in-Loop.ensures) c.below_first-rest.ensures k c.requires.room c.requires.stands (tree_of c.deref-in-Loop-2.result.now) c.next_visit.new.slots _ c.end_of-to.result c.in-Some-first_from.leaf _ (ap tree_of c.deref-in-Loop-2.ensures) c.end_of-to.ensures refl refl c.in_default.ensures c.in-Some-first_from.ensures
+    loop_next_over _ _ c.in-Loop.walk c.in-Loop.var c.in-Loop.extent (tree_of c.in-Loop.body.value) _ _ _ _ _ _ (ap tree_of c.in-Loop.is) (ap tree_of c.deref-in-Loop.ensures) c.below_first-rest.ensures k c.requires.room c.requires.stands (tree_of c.deref-in-Loop-2.result.now) c.next_visit.new.slots _ c.end_of-to.result c.in-Some-first_from.leaf _ (ap tree_of c.deref-in-Loop-2.ensures) c.end_of-to.ensures refl refl c.in_default.ensures.steps c.in-Some-first_from.ensures.finds
 
 pub overflow_add-result : goal.overflow_add-result
 overflow_add-result g t c =
     let few : leaf_count (tree_of c.deref-then-leaf-count.result.now) < 2 ^ 32 = omega (arith, subst (λ (x : Tree). leaf_count x < 2 ^ 32) (ap tree_of c.in-Pre.is) c.requires.few, ap (λ b. leaf_count (tree_of b)) c.deref-then-leaf-count.ensures) in
-    let l = past_fits _ _ _ _ _ _ _ _ few c.in-Some-next_visit.ensures in
+    let l = past_fits _ _ _ _ _ _ _ _ few c.in-Some-next_visit.ensures.steps in
     omega arith
 
-pub returns-in-Some-next_visit : goal.returns-in-Some-next_visit
-returns-in-Some-next_visit g t c =
-    pre_first_next _ _ c.in-Pre.work c.in-Pre.pairs c.as_slice.result.now (tree_of c.in-Pre.producer.value) (tree_of c.in-Pre.consumer.value) (tree_of c.deref-then-leaf-count.result.now) (tree_of c.in-Pre.consumer.value) _ _ _ _ (ap tree_of c.in-Pre.is) c.as_slice.ensures (ap tree_of c.deref-then-leaf-count.ensures) refl c.requires.room c.requires.stands _ c.in-Some-next_visit.stand _ (omega (arith, c.if-leaf-count.true, c.leaves-count.ensures, ap (λ b. leaf_count (tree_of b)) c.deref-in-Pre.ensures)) refl refl c.in-Some-next_visit.ensures
+pub returns-in-Some-next_visit-clause-steps : goal.returns-in-Some-next_visit-clause-steps
+returns-in-Some-next_visit-clause-steps g t c =
+    pre_first_next _ _ c.in-Pre.work c.in-Pre.pairs c.as_slice.result.now (tree_of c.in-Pre.producer.value) (tree_of c.in-Pre.consumer.value) (tree_of c.deref-then-leaf-count.result.now) (tree_of c.in-Pre.consumer.value) _ _ _ _ (ap tree_of c.in-Pre.is) c.as_slice.ensures (ap tree_of c.deref-then-leaf-count.ensures) refl c.requires.room c.requires.stands _ c.in-Some-next_visit.stand _ (omega (arith, c.if-leaf-count.true, c.leaves-count.ensures, ap (λ b. leaf_count (tree_of b)) c.deref-in-Pre.ensures)) refl refl c.in-Some-next_visit.ensures.steps
 
 pub first-requires-clause-zero : goal.first-requires-clause-zero
 first-requires-clause-zero g t c =
-    consumer_zero (g.T.Testing.tests c.args.tests.now) (tree_of c.args.nest.now) c.in-Pre.work c.in-Pre.pairs c.as_slice.result.now (tree_of c.in-Pre.producer.value) (tree_of c.in-Pre.consumer.value) (tree_of c.deref-then-leaf-count.result.now) (tree_of c.deref-then-leaf-count-2.result.now) (pairs_in c.args.naming.now) c.args.path.now c.args.slots.now c.args.leaf (ap tree_of c.in-Pre.is) c.as_slice.ensures (ap tree_of c.deref-then-leaf-count.ensures) (ap tree_of c.deref-then-leaf-count-2.ensures) c.requires.room c.requires.stands c.next_visit-then-leaf-count.new.slots (omega (arith, c.if-leaf-count.true, c.leaves-count.ensures, ap (λ b. leaf_count (tree_of b)) c.deref-in-Pre.ensures)) c.in_default-next_visit.ensures
+    consumer_zero (g.T.Testing.tests c.args.tests.now) (tree_of c.args.nest.now) c.in-Pre.work c.in-Pre.pairs c.as_slice.result.now (tree_of c.in-Pre.producer.value) (tree_of c.in-Pre.consumer.value) (tree_of c.deref-then-leaf-count.result.now) (tree_of c.deref-then-leaf-count-2.result.now) (pairs_in c.args.naming.now) c.args.path.now c.args.slots.now c.args.leaf (ap tree_of c.in-Pre.is) c.as_slice.ensures (ap tree_of c.deref-then-leaf-count.ensures) (ap tree_of c.deref-then-leaf-count-2.ensures) c.requires.room c.requires.stands c.next_visit-then-leaf-count.new.slots (omega (arith, c.if-leaf-count.true, c.leaves-count.ensures, ap (λ b. leaf_count (tree_of b)) c.deref-in-Pre.ensures)) c.in_default-next_visit.ensures.steps
 
-pub returns-in-None-first : goal.returns-in-None-first
-returns-in-None-first g t c =
-    pre_over_none _ _ c.in-Pre.work c.in-Pre.pairs c.as_slice.result.now (tree_of c.in-Pre.producer.value) (tree_of c.in-Pre.consumer.value) (tree_of c.deref-then-leaf-count.result.now) (tree_of c.deref-then-leaf-count-2.result.now) _ _ _ _ (ap tree_of c.in-Pre.is) c.as_slice.ensures (ap tree_of c.deref-then-leaf-count.ensures) (ap tree_of c.deref-then-leaf-count-2.ensures) c.requires.room c.requires.stands c.next_visit-then-leaf-count.new.slots _ (omega (arith, c.if-leaf-count.true, c.leaves-count.ensures, ap (λ b. leaf_count (tree_of b)) c.deref-in-Pre.ensures)) c.in_default-next_visit.ensures c.in-None-first.ensures
+pub returns-in-None-first-clause-steps : goal.returns-in-None-first-clause-steps
+returns-in-None-first-clause-steps g t c =
+    pre_over_none _ _ c.in-Pre.work c.in-Pre.pairs c.as_slice.result.now (tree_of c.in-Pre.producer.value) (tree_of c.in-Pre.consumer.value) (tree_of c.deref-then-leaf-count.result.now) (tree_of c.deref-then-leaf-count-2.result.now) _ _ _ _ (ap tree_of c.in-Pre.is) c.as_slice.ensures (ap tree_of c.deref-then-leaf-count.ensures) (ap tree_of c.deref-then-leaf-count-2.ensures) c.requires.room c.requires.stands c.next_visit-then-leaf-count.new.slots _ (omega (arith, c.if-leaf-count.true, c.leaves-count.ensures, ap (λ b. leaf_count (tree_of b)) c.deref-in-Pre.ensures)) c.in_default-next_visit.ensures.steps c.in-None-first.ensures.finds
 
-pub returns-in-Some-first : goal.returns-in-Some-first
-returns-in-Some-first g t c =
-    pre_over _ _ c.in-Pre.work c.in-Pre.pairs c.as_slice.result.now (tree_of c.in-Pre.producer.value) (tree_of c.in-Pre.consumer.value) (tree_of c.deref-then-leaf-count.result.now) (tree_of c.deref-then-leaf-count-2.result.now) _ _ _ _ (ap tree_of c.in-Pre.is) c.as_slice.ensures (ap tree_of c.deref-then-leaf-count.ensures) (ap tree_of c.deref-then-leaf-count-2.ensures) c.requires.room c.requires.stands c.next_visit-then-leaf-count.new.slots _ c.in-Some-first.leaf _ (omega (arith, c.if-leaf-count.true, c.leaves-count.ensures, ap (λ b. leaf_count (tree_of b)) c.deref-in-Pre.ensures)) (ap (λ (k : ℕ). k + c.in-Some-first.leaf) (sym (c.leaves-count.ensures ∙ ap (λ b. leaf_count (tree_of b)) c.deref-in-Pre.ensures))) refl c.in_default-next_visit.ensures c.in-Some-first.ensures
+pub returns-in-Some-first-clause-steps : goal.returns-in-Some-first-clause-steps
+returns-in-Some-first-clause-steps g t c =
+    pre_over _ _ c.in-Pre.work c.in-Pre.pairs c.as_slice.result.now (tree_of c.in-Pre.producer.value) (tree_of c.in-Pre.consumer.value) (tree_of c.deref-then-leaf-count.result.now) (tree_of c.deref-then-leaf-count-2.result.now) _ _ _ _ (ap tree_of c.in-Pre.is) c.as_slice.ensures (ap tree_of c.deref-then-leaf-count.ensures) (ap tree_of c.deref-then-leaf-count-2.ensures) c.requires.room c.requires.stands c.next_visit-then-leaf-count.new.slots _ c.in-Some-first.leaf _ (omega (arith, c.if-leaf-count.true, c.leaves-count.ensures, ap (λ b. leaf_count (tree_of b)) c.deref-in-Pre.ensures)) (ap (λ (k : ℕ). k + c.in-Some-first.leaf) (sym (c.leaves-count.ensures ∙ ap (λ b. leaf_count (tree_of b)) c.deref-in-Pre.ensures))) refl c.in_default-next_visit.ensures.steps c.in-Some-first.ensures.finds
 
 pub overflow_add-result-in-Some-next_visit-2-2 : goal.overflow_add-result-in-Some-next_visit-2-2
 overflow_add-result-in-Some-next_visit-2-2 g t c =
     let few : leaf_count (tree_of c.deref-else-leaf-count.result.now) < 2 ^ 32 = omega (arith, subst (λ (x : Tree). leaf_count x < 2 ^ 32) (ap tree_of c.in-Pre.is) c.requires.few, ap (λ b. leaf_count (tree_of b)) c.deref-else-leaf-count.ensures) in
-    let l = past_fits _ _ _ _ _ _ _ _ few c.in-Some-next_visit-2.ensures in
+    let l = past_fits _ _ _ _ _ _ _ _ few c.in-Some-next_visit-2.ensures.steps in
     omega arith
 
-pub returns-in-None-next_visit : goal.returns-in-None-next_visit
-returns-in-None-next_visit g t c =
-    pre_second_none _ _ c.in-Pre.work c.in-Pre.pairs c.in-Pre.pairs (tree_of c.in-Pre.producer.value) (tree_of c.in-Pre.consumer.value) (tree_of c.in-Pre.producer.value) (tree_of c.deref-else-leaf-count.result.now) _ _ _ _ (ap tree_of c.in-Pre.is) refl refl (ap tree_of c.deref-else-leaf-count.ensures) c.requires.room c.requires.stands _ (c.args.leaf - c.leaves-count.result) (omega (arith, c.if-leaf-count.false, c.leaves-count.ensures, ap (λ b. leaf_count (tree_of b)) c.deref-in-Pre.ensures)) c.in-None-next_visit.ensures
+pub returns-in-None-next_visit-clause-steps : goal.returns-in-None-next_visit-clause-steps
+returns-in-None-next_visit-clause-steps g t c =
+    pre_second_none _ _ c.in-Pre.work c.in-Pre.pairs c.in-Pre.pairs (tree_of c.in-Pre.producer.value) (tree_of c.in-Pre.consumer.value) (tree_of c.in-Pre.producer.value) (tree_of c.deref-else-leaf-count.result.now) _ _ _ _ (ap tree_of c.in-Pre.is) refl refl (ap tree_of c.deref-else-leaf-count.ensures) c.requires.room c.requires.stands _ (c.args.leaf - c.leaves-count.result) (omega (arith, c.if-leaf-count.false, c.leaves-count.ensures, ap (λ b. leaf_count (tree_of b)) c.deref-in-Pre.ensures)) c.in-None-next_visit.ensures.steps
 
-pub returns-in-Some-next_visit-2 : goal.returns-in-Some-next_visit-2
-returns-in-Some-next_visit-2 g t c =
-    pre_second_next _ _ c.in-Pre.work c.in-Pre.pairs c.in-Pre.pairs (tree_of c.in-Pre.producer.value) (tree_of c.in-Pre.consumer.value) (tree_of c.in-Pre.producer.value) (tree_of c.deref-else-leaf-count.result.now) _ _ _ _ (ap tree_of c.in-Pre.is) refl refl (ap tree_of c.deref-else-leaf-count.ensures) c.requires.room c.requires.stands _ (c.args.leaf - c.leaves-count.result) c.in-Some-next_visit-2.stand _ (omega (arith, c.if-leaf-count.false, c.leaves-count.ensures, ap (λ b. leaf_count (tree_of b)) c.deref-in-Pre.ensures)) (ap (λ (k : ℕ). k + c.in-Some-next_visit-2.stand.leaf) (sym (c.leaves-count.ensures ∙ ap (λ b. leaf_count (tree_of b)) c.deref-in-Pre.ensures))) refl c.in-Some-next_visit-2.ensures
+pub returns-in-Some-next_visit-2-clause-steps : goal.returns-in-Some-next_visit-2-clause-steps
+returns-in-Some-next_visit-2-clause-steps g t c =
+    pre_second_next _ _ c.in-Pre.work c.in-Pre.pairs c.in-Pre.pairs (tree_of c.in-Pre.producer.value) (tree_of c.in-Pre.consumer.value) (tree_of c.in-Pre.producer.value) (tree_of c.deref-else-leaf-count.result.now) _ _ _ _ (ap tree_of c.in-Pre.is) refl refl (ap tree_of c.deref-else-leaf-count.ensures) c.requires.room c.requires.stands _ (c.args.leaf - c.leaves-count.result) c.in-Some-next_visit-2.stand _ (omega (arith, c.if-leaf-count.false, c.leaves-count.ensures, ap (λ b. leaf_count (tree_of b)) c.deref-in-Pre.ensures)) (ap (λ (k : ℕ). k + c.in-Some-next_visit-2.stand.leaf) (sym (c.leaves-count.ensures ∙ ap (λ b. leaf_count (tree_of b)) c.deref-in-Pre.ensures))) refl c.in-Some-next_visit-2.ensures.steps

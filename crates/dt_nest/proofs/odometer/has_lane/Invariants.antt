@@ -1,4 +1,4 @@
-use Rattle.std.proofs.Common.{◌≡◌, false}
+use Rattle.std.proofs.Common.{◌≡◌, false, length}
 use Rattle.std.specs.List.{list_any, range_with_len}
 use Rattle.dt_nest.specs.Tree.{tree_of}
 use Rattle.dt_nest.specs.Naming.{pairs_in}
@@ -7,4 +7,4 @@ use Rattle.dt_nest.specs.Odometer.{guards_of}
 use Rattle.dt_nest.proofs.odometer.has_lane.Given as goal
 
 abbrev pub invariant-loop-x : goal.invariant-loop-x
-invariant-loop-x g l = (l.slots ≡ l.initial.slots) × (list_any (is_valid (g.T.Testing.tests l.tests) l.walk l.var (guards_of (tree_of l.body)) (pairs_in l.naming) l.slots) (range_with_len 0 l.x) ≡ false)
+invariant-loop-x g l = (l.slots ≡ l.initial.slots) × (list_any (is_valid (g.T.Testing.tests l.tests) l.walk l.var (guards_of (tree_of l.body)) (pairs_in l.naming) l.slots) (range_with_len 0 l.x) ≡ false) × (length l.values ≡ length l.initial.values)

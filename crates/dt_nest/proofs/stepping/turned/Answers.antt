@@ -21,7 +21,7 @@ pub returns-then-wheels-clause-steps : goal.returns-then-wheels-clause-steps
 returns-then-wheels-clause-steps g c = (
   ap (λ (ws : List Wheel). turned ws c.args.slots.now) (sym c.as_slice.ensures.value) ∙ c.turn.ensures.turned ∙ ap (λ (b : Bool). if b then Some c.turn.new.slots else None) c.if-not-turn.false,
   full_holds (world_of (g.L.Locator.tensors c.args.against.now.loc.now) (seen c.args.against.now.parts.now)) c.args.against.now.parts.now.derived c.turn.new.slots c.fill_derived-full.new.values c.args.wheels.now.guards.items
-      (subst (λ (l : List Derived). IsTable (world_of (g.L.Locator.tensors c.args.against.now.loc.now) (seen c.args.against.now.parts.now)) l c.turn.new.slots c.fill_derived-full.new.values) c.as_slice-derived.ensures c.fill_derived-full.ensures.table)
+      (subst (λ (l : List Derived). IsTable (world_of (g.L.Locator.tensors c.args.against.now.loc.now) (seen c.args.against.now.parts.now)) l (λ u. u) c.turn.new.slots c.fill_derived-full.new.values) c.as_slice-derived.ensures c.fill_derived-full.ensures.table)
       (subst (λ (b : Bool). OnTrue b (AllByRecursion (IsSplitVar c.args.against.now.parts.now.derived) c.args.wheels.now.guards.items)) c.if-wheels.true c.requires.splits)
       (subst (λ (b : Bool). OnTrue b ((u : ℕ) → is_some (tabled c.fill_derived-full.new.values u) ≡ true)) c.if-full.true c.fill_derived-full.ensures.full),
 )

@@ -18,8 +18,8 @@ loop-k-init g c =
     record {
       same = refl;
       within = omega arith;
-      done = subst (λ (l : List Derived). IsTable (world_of (g.L.Locator.tensors c.args.loc.now) (seen c.args.parts.now)) l c.args.slots.now c.args.values.now) (sym none)
-          (table_none (world_of (g.L.Locator.tensors c.args.loc.now) (seen c.args.parts.now)) c.args.slots.now c.args.values.now c.requires.values);
+      done = subst (λ (l : List Derived). IsTable (world_of (g.L.Locator.tensors c.args.loc.now) (seen c.args.parts.now)) l (g.N.Renaming.names c.args.names.now) c.args.slots.now c.args.values.now) (sym none)
+          (table_none (world_of (g.L.Locator.tensors c.args.loc.now) (seen c.args.parts.now)) (g.N.Renaming.names c.args.names.now) c.args.slots.now c.args.values.now c.requires.values);
       full = λ e u. ap is_some (c.requires.values u);
     }
 
@@ -37,15 +37,7 @@ loop-k-preserved g c =
     record {
       same = length-set c.loop-k.values c.index-derived-k.result.var c.derived_from-value.result ∙ c.loop-k.invariant.same;
       within = omega (arith, l);
-      done = table_more (world_of (g.L.Locator.tensors c.args.loc.now) (seen c.args.parts.now)) c.args.slots.now c.loop-k.values c.index-derived-k.result (drop c.loop-k.k c.args.derived.now) (drop (c.loop-k.k - 1) c.args.derived.now) c.derived_from-value.result
+      done = table_more (world_of (g.L.Locator.tensors c.args.loc.now) (seen c.args.parts.now)) (g.N.Renaming.names c.args.names.now) c.args.slots.now c.loop-k.values c.index-derived-k.result (drop c.loop-k.k c.args.derived.now) (drop (c.loop-k.k - 1) c.args.derived.now) c.derived_from-value.result
           within c.loop-k.invariant.done rest c.derived_from-value.ensures;
       full = λ e. set_full c.loop-k.values c.index-derived-k.result.var c.derived_from-value.result c.loop-k.full c.is_some.result within (sym c.both-full.ensures ∙ e) c.is_some.ensures c.loop-k.invariant.full;
     }
-
-pub derived_from-value-requires-clause-within : goal.derived_from-value-requires-clause-within
-derived_from-value-requires-clause-within g c =
-    let l : c.loop-k.k - 1 < length c.args.derived.now = omega (arith, c.loop-k.invariant.within, c.loop-k-test.true) in
-    let named = all_get (λ (d : Derived). (d.var < length (seen c.args.parts.now).names) × AllByRecursion (λ u. u < length (seen c.args.parts.now).names) (sources d.how) × IsBounded (seen c.args.parts.now) d.var d.how)
-    c.args.derived.now (c.loop-k.k - 1) c.index-derived-k.result c.requires.named l in
-    subst (λ (n : ℕ). AllByRecursion (λ u. u < n) (sources c.index-derived-k.result.how)) (sym (c.loop-k.invariant.same ∙ c.requires.room))
-    (subst (λ (d : Derived). AllByRecursion (λ u. u < length (seen c.args.parts.now).names) (sources d.how)) (sym c.index-derived-k.is) named.1)

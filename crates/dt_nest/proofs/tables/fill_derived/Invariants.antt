@@ -9,7 +9,7 @@ abbrev pub invariant-loop-k : goal.invariant-loop-k
 invariant-loop-k g l = record {
   same : length l.values ≡ length l.initial.values;
   within : l.k ≤ length l.derived;
-  done : IsTable (world_of (g.L.Locator.tensors l.loc) (seen l.parts)) (drop l.k l.derived) l.slots l.values;
+  done : IsTable (world_of (g.L.Locator.tensors l.loc) (seen l.parts)) (drop l.k l.derived) (g.N.Renaming.names l.names) l.slots l.values;
   full : l.full ≡ true → (u : ℕ) → is_some (tabled l.values u) ≡ true;
 }
 

@@ -1,5 +1,5 @@
 use Rattle.std.proofs.Common.{length}
-use Rattle.dt_nest.proofs.values.+prefix.Given as goal
+use Rattle.dt_nest.proofs.knowing.+prefix.Given as goal
 
 abbrev pub decreases-prefix : goal.decreases-prefix
 decreases-prefix g l = length l.vars.now

@@ -1,0 +1,123 @@
+//! The tests of a schedule's visits against tensors.
+
+ghost use Rattle.std.specs.Prelude.{◌≡◌, length};
+ghost use Rattle.dt_nest.specs.Schedule.{seen};
+ghost use Rattle.dt_nest.specs.World.{world_of};
+ghost use Rattle.dt_nest.specs.Lawful.{AreNamed};
+ghost use Rattle.dt_nest.specs.Naming.{pairs_in};
+ghost use Rattle.dt_nest.specs.Odometer.{guards_of};
+ghost use Rattle.dt_nest.specs.Tree.{tree_of};
+ghost use Rattle.dt_nest.specs.Values.{inside_tests};
+
+use crate::knowing::{hold, takes_stored};
+use crate::lanes::Slots;
+use crate::loops::{Nest, Walk};
+use crate::naming::Naming;
+use crate::odometer::Testing;
+use crate::parts::SchedParts;
+use crate::tables::{Table, tabulate};
+use crate::values::Sought;
+use dt_model::Locator;
+
+/// The parts of a schedule against tensors: the tests of its visits.
+#[derive(Drop)]
+pub struct Against<'s, L: Locator> {
+    pub parts: &'s SchedParts,
+    pub loc: &'s L,
+}
+
+impl<L: Locator> Against<'_, L> {
+    /// Whether a loop takes its value. It takes no room, and seeks each value by itself.
+    pub fn takes_at(&self, walk: &Option<Walk>, var: u32, naming: &Naming, slots: &Slots) -> bool
+        requires named { AreNamed (seen self.now.parts.now) self.now.parts.now.derived }
+        requires tensors { length (L.tensors self.now.loc.now) ≡ length self.now.parts.now.tensors }
+        ensures { result ≡ (inside_tests (world_of (L.tensors self.now.loc.now) (seen self.now.parts.now)) self.now.parts.now.derived).takes walk.now var (pairs_in naming.now) slots.now }
+    {
+        match walk {
+            None => true,
+            Some(walk) => {
+                let known = Sought {
+                    parts: self.parts,
+                    loc: self.loc,
+                    naming,
+                    slots,
+                };
+                takes_stored(walk, var, naming, self.parts, self.loc, &known)
+            }
+        }
+    }
+
+    /// Whether the guards of a leaf hold. It takes no room, and seeks each value by itself.
+    pub fn holds_in(&self, leaf: &Nest, naming: &Naming, slots: &Slots) -> bool
+        requires named { AreNamed (seen self.now.parts.now) self.now.parts.now.derived }
+        requires tensors { length (L.tensors self.now.loc.now) ≡ length self.now.parts.now.tensors }
+        ensures { result ≡ (inside_tests (world_of (L.tensors self.now.loc.now) (seen self.now.parts.now)) self.now.parts.now.derived).holds (guards_of (tree_of leaf.now)) (pairs_in naming.now) slots.now }
+    {
+        match leaf {
+            Nest::Loop { .. } => true,
+            Nest::Pre { .. } => true,
+            Nest::Leaf { guards, .. } => {
+                let known = Sought {
+                    parts: self.parts,
+                    loc: self.loc,
+                    naming,
+                    slots,
+                };
+                hold(guards.as_slice(), self.parts.extents.as_slice(), &known)
+            }
+        }
+    }
+}
+
+impl<L: Locator> Testing for Against<'_, L> {
+    ghost use Rattle.std.specs.Prelude.{◌≡◌, length};
+    ghost use Rattle.dt_nest.specs.Schedule.{seen};
+    ghost use Rattle.dt_nest.specs.World.{world_of};
+    ghost use Rattle.dt_nest.specs.Lawful.{AreNamed};
+    ghost use Rattle.dt_nest.specs.Values.{inside_tests};
+
+    ghost tests = { λ a. inside_tests (world_of (L.tensors a.loc.now) (seen a.parts.now)) a.parts.now.derived };
+
+    ghost ready = { λ a. AreNamed (seen a.parts.now) a.parts.now.derived × (length (L.tensors a.loc.now) ≡ length a.parts.now.tensors) };
+
+    ghost room = { λ a. length a.parts.now.names };
+
+    fn takes(
+        &self,
+        walk: &Option<Walk>,
+        var: u32,
+        naming: &Naming,
+        slots: &[u32],
+        values: &mut [Option<u32>],
+    ) -> bool {
+        match walk {
+            None => true,
+            Some(walk) => {
+                tabulate(self.parts, self.loc, naming, slots, values);
+                let known = Table {
+                    names: naming,
+                    values,
+                };
+                takes_stored(walk, var, naming, self.parts, self.loc, &known)
+            }
+        }
+    }
+
+    fn holds(
+        &self,
+        guards: &[u32],
+        naming: &Naming,
+        slots: &[u32],
+        values: &mut [Option<u32>],
+    ) -> bool {
+        if guards.is_empty() {
+            return true;
+        }
+        tabulate(self.parts, self.loc, naming, slots, values);
+        let known = Table {
+            names: naming,
+            values,
+        };
+        hold(guards, self.parts.extents.as_slice(), &known)
+    }
+}
