@@ -7,8 +7,8 @@ ghost use Rattle.dt_model.specs.Steps.{Gives};
 ghost use Rattle.dt_place.specs.MachineLine.{machine_line, machine_with};
 
 use crate::machines::Machine;
-use crate::numerals::{are_numerals, read_numbers};
-use crate::pieces::pieces;
+use crate::numerals::{are_all_numerals, read_numbers};
+use crate::separating::pieces;
 use dt_model::{Cause, LineEnd};
 use dt_text::{Token, word, words};
 use std::alloc::Global;
@@ -33,7 +33,7 @@ fn read_machine(alloc: Global, text: &[u8], tokens: &[Token]) -> Result<Machine,
         [level] => {
             let level = word(text, *level);
             let parts = pieces(alloc, level, b'x')?;
-            if !are_numerals(level, parts.as_slice()) {
+            if !are_all_numerals(level, parts.as_slice()) {
                 return Err(LineEnd::Refused(Cause::Syntax));
             }
             let numbers = read_numbers(alloc, level, parts.as_slice())?;

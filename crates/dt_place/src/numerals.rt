@@ -12,7 +12,7 @@ use dt_text::{Token, is_numeral, number, word};
 use std::alloc::Global;
 
 /// Whether each word is digits.
-pub fn are_numerals(text: &[u8], tokens: &[Token]) -> bool
+pub fn are_all_numerals(text: &[u8], tokens: &[Token]) -> bool
     requires { All (IsToken (length text.now)) tokens.now }
     ensures { result ≡ list_all is_numeral (map (token_in text.now) tokens.now) }
 {

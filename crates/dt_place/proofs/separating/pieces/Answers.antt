@@ -5,7 +5,7 @@ use Rattle.dt_text.specs.Spans.{IsToken, token_in}
 use Rattle.dt_text.specs.declared.token_list.Token.{Token}
 use Rattle.dt_place.specs.Pieces.{is_byte}
 use Rattle.dt_place.proofs.PieceLemmas.{piece_at, piece_end, piece_last, piece_more}
-use Rattle.dt_place.proofs.pieces.pieces.Goals as goal
+use Rattle.dt_place.proofs.separating.pieces.Goals as goal
 
 pub returns-then-to-word-clause-words : goal.returns-then-to-word-clause-words
 returns-then-to-word-clause-words c =

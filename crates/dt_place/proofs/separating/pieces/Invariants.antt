@@ -1,7 +1,7 @@
 use Rattle.std.proofs.Common.{◌≡◌, ◌≤◌, ◌-◌, ◌++◌, All, length, map, drop}
 use Rattle.dt_text.specs.Spans.{IsToken, token_in}
 use Rattle.dt_place.specs.Pieces.{pieces_of}
-use Rattle.dt_place.proofs.pieces.pieces.Given as goal
+use Rattle.dt_place.proofs.separating.pieces.Given as goal
 
 abbrev pub invariant-loop-items : goal.invariant-loop-items
 invariant-loop-items l = record {
