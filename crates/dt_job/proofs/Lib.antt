@@ -1,8 +1,7 @@
 pub mod ContentFacts
 pub mod FillFacts
+pub mod FirstPart
 pub mod ReadLaws
 pub mod PhaseFacts
-pub mod PieceLemmas
 pub mod Separating
 pub mod StmtFacts
-pub mod Words

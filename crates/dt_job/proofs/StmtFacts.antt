@@ -15,7 +15,7 @@ use Rattle.dt_index.specs.Reads.{factor_reads, term_reads, right_side_reads}
 use Rattle.dt_nest.specs.Chain.{chain, stmt_schedule, MeansStmt}
 use Rattle.dt_nest.specs.Outputs.{output_of, reads_of}
 use Rattle.dt_nest.specs.Tree.{Tree, factor_accesses, read_accesses}
-use Rattle.dt_bounds.proofs.StmtSchedules.{stmt_fits}
+use Rattle.dt_nest.proofs.StmtFits.{stmt_fits}
 use Rattle.dt_tensor.specs.Packed.{dense_levels}
 use Rattle.dt_job.specs.Contents.{Contents, extents_of_all, names_of, stored_of_all}
 use Rattle.dt_job.specs.Jobs.{IsJobStmt}

@@ -33,7 +33,8 @@ use Rattle.dt_job.specs.Fills.{fill_values}
 use Rattle.dt_job.specs.declared.fills.Fill.{Fill}
 use Rattle.dt_job.specs.declared.fills.Fill.TheVariants.{Ramp, Seed}
 use Rattle.dt_job.specs.Phases.{open_stmt, takes_declaration, takes_distal, takes_machine, takes_output, takes_stmt}
-use Rattle.dt_job.specs.Shapes.{are_numerals, extent_words, is_dense_letter, level_words, numbers_of, numeral_of}
+use Rattle.dt_job.specs.Shapes.{are_numerals, extent_words, is_dense_letter, level_words, numeral_of}
+use Rattle.dt_place.specs.Pieces.{numbers_of}
 
 -- `distal 1`
 unfoldable pub distal_line : DraftView → List (List ℕ) → Result DraftView Cause

@@ -1,12 +1,12 @@
 -- Numbers and shapes that stand as words of a line.
-use Rattle.std.specs.Prelude.{ℕ, List, [], ◌∷◌, length, codes, Bool, ◌&&◌, ◌==◌, nat_le, if◌then◌else◌, Result, Ok}
+use Rattle.std.specs.Prelude.{ℕ, List, [], length, codes, Bool, ◌&&◌, nat_le, if◌then◌else◌, Result}
 use Rattle.std.specs.List.{list_all}
 use Rattle.std.specs.Str.{bytes_eq}
-use Rattle.dt_text.specs.Lines.{onto_first}
 use Rattle.dt_text.specs.Numbers.{is_numeral, number_of}
 use Rattle.dt_model.specs.declared.cause.Cause.{Cause}
 use Rattle.dt_model.specs.declared.cause.Cause.TheVariants as cause
 use Rattle.dt_model.specs.Steps.{◌>>=◌, need, found}
+use Rattle.dt_place.specs.Pieces.{pieces_of}
 
 -- one or more words in the places of numbers
 abbrev pub are_numerals : List (List ℕ) → Bool
@@ -17,23 +17,6 @@ unfoldable pub numeral_of : List ℕ → Result ℕ Cause
 numeral_of word = do
   _ ← need (is_numeral word) cause.Syntax
   found (number_of word) cause.BadNumber
-
--- the numbers of words that are digits
-unfoldable pub numbers_of : List (List ℕ) → Result (List ℕ) Cause
-numbers_of [] = Ok []
-numbers_of (word ∷ words) = do
-  n ← found (number_of word) cause.BadNumber
-  ns ← numbers_of words
-  Ok (n ∷ ns)
-
--- whether a byte is this one
-abbrev pub is_byte : ℕ → ℕ → Bool
-is_byte separator b = b == separator
-
--- the pieces of a word between the bytes that separate them
-abbrev pub pieces_of : ℕ → List ℕ → List (List ℕ)
-pieces_of separator [] = [] ∷ []
-pieces_of separator (b ∷ bs) = if is_byte separator b then [] ∷ pieces_of separator bs else onto_first b (pieces_of separator bs)
 
 -- `scalar`
 abbrev pub is_scalar : List ℕ → Bool

@@ -1,13 +1,14 @@
 //! Shapes and formats that stand as words of a line.
 
-ghost use Rattle.std.specs.Prelude.{◌≡◌, ◌≤◌, ◌<◌, ◌^◌, All, IfOk, length, map};
-ghost use Rattle.std.specs.List.{list_all, position_or_len};
+ghost use Rattle.std.specs.Prelude.{◌≡◌, ◌<◌, ◌^◌, All, IfOk, length, map};
+ghost use Rattle.std.specs.List.{list_all};
 ghost use Rattle.dt_text.specs.Spans.{IsToken, token_in};
 ghost use Rattle.dt_model.specs.Shape.{is_extent, shape_of_extents};
-ghost use Rattle.dt_job.specs.Shapes.{extent_words, is_byte, is_dense_letter, is_scalar, level_words, pieces_of};
+ghost use Rattle.dt_job.specs.Shapes.{extent_words, is_dense_letter, is_scalar, level_words};
 
 use dt_base::NoMemory;
 use dt_model::Shape;
+use dt_place::pieces;
 use dt_text::{Token, Tokens, word};
 use std::alloc::Global;
 
@@ -55,32 +56,6 @@ fn is_dense_letter(letter: &[u8]) -> bool
     ensures { result ≡ is_dense_letter letter.now }
 {
     letter == b"d".as_slice()
-}
-
-/// The pieces of a word between the bytes that separate them.
-fn pieces(alloc: Global, word: &[u8], separator: u8) -> Result<Tokens, NoMemory>
-    requires { length word.now < 2 ^ 32 }
-    ensures words { IfOk result (λ ts. map (token_in word.now) ts ≡ pieces_of separator word.now) }
-    ensures tokens { IfOk result (λ ts. All (IsToken (length word.now)) ts) }
-{
-    let mut items = Vec::new(alloc);
-    let mut from = 0u32;
-    loop {
-        let to = from + piece_len(&word[from as usize..], separator) as u32;
-        items.push(Token { from, to })?;
-        if to as usize == word.len() {
-            return Ok(Tokens::from_vec(items));
-        }
-        from = to + 1;
-    }
-}
-
-/// How many bytes stand before the first separator.
-fn piece_len(word: &[u8], separator: u8) -> usize
-    ensures place { result ≡ position_or_len (is_byte separator) word.now }
-    ensures within { result ≤ length word.now }
-{
-    word.iter().take_while(|b| **b != separator).count()
 }
 
 /// The shape with these extents, where they are some of a tensor.

@@ -1,4 +1,4 @@
-use Rattle.dt_bench.proofs.FirstPart.{first_fits}
+use Rattle.dt_job.proofs.FirstPart.{first_fits}
 use Rattle.dt_bench.proofs.needs.needs.Goals as goal
 
 pub words_of_nodes-requires : goal.words_of_nodes-requires

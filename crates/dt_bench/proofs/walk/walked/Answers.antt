@@ -1,4 +1,4 @@
-use Rattle.dt_bench.proofs.FirstPart.{first_fits}
+use Rattle.dt_job.proofs.FirstPart.{first_fits}
 use Rattle.dt_bench.proofs.walk.walked.Goals as goal
 
 pub visited-requires : goal.visited-requires

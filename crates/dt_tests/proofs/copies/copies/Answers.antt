@@ -1,4 +1,4 @@
-use Rattle.dt_tests.proofs.FirstPart.{first_fits}
+use Rattle.dt_job.proofs.FirstPart.{first_fits}
 use Rattle.dt_tests.proofs.copies.copies.Goals as goal
 
 pub needed-requires-clause-fits : goal.needed-requires-clause-fits

@@ -1,4 +1,4 @@
-use Rattle.dt_tests.proofs.FirstPart.{first_fits}
+use Rattle.dt_job.proofs.FirstPart.{first_fits}
 use Rattle.dt_tests.proofs.visit_tests.values_after.Goals as goal
 
 pub values-requires : goal.values-requires
