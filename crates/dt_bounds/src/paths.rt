@@ -1,21 +1,10 @@
 //! Whether values are a path of a nest.
 
 ghost use Rattle.std.specs.Prelude.{◌≡◌, IsTrue, ◌↔◌};
-ghost use Rattle.dt_nest.specs.Tree.{is_kernel_leaf, tree_of};
+ghost use Rattle.dt_nest.specs.Tree.{tree_of};
 ghost use Rattle.dt_nest.specs.Visits.{IsPath, IsPathIn};
 
-use dt_nest::{Kernel, Nest, Sched};
-
-/// Whether the nest is a leaf that runs a stored kernel.
-fn is_kernel_leaf(nest: &Nest) -> bool
-    ensures { result ≡ is_kernel_leaf (tree_of nest.now) }
-{
-    match nest {
-        Nest::Loop { .. } => false,
-        Nest::Pre { .. } => false,
-        Nest::Leaf { kernel, .. } => !matches!(kernel, Kernel::Plain),
-    }
-}
+use dt_nest::{Nest, Sched, has_kernel};
 
 fn is_path_in(nest: &Nest, path: &[u32]) -> bool
     ensures { IsTrue result ↔ IsPathIn (tree_of nest.now) path.now }
@@ -24,7 +13,7 @@ fn is_path_in(nest: &Nest, path: &[u32]) -> bool
         None => true,
         Some((value, below)) => match nest {
             Nest::Loop { extent, body, .. } => {
-                *value < *extent && !is_kernel_leaf(body) && is_path_in(body, below)
+                *value < *extent && !has_kernel(body) && is_path_in(body, below)
             }
             Nest::Pre { .. } => false,
             Nest::Leaf { .. } => false,

@@ -1,12 +1,12 @@
 //! How loops stand in a nest.
 
 ghost use Rattle.std.specs.Prelude.{◌≡◌, ◌+◌, ◌≤◌, ◌++◌, length};
-ghost use Rattle.dt_nest.specs.Tree.{tree_of, has_loop, loop_count, is_kernel_leaf};
+ghost use Rattle.dt_nest.specs.Tree.{tree_of, has_loop, loop_count};
 ghost use Rattle.dt_nest.specs.Place.{is_among, is_fixed, loops_to};
 ghost use Rattle.dt_rewrite.specs.Standing.{all_differ, begins_with, chain_from, in_order, is_chain, is_in, misplaced};
 
 use arrayvec::ArrayVec;
-use dt_nest::{Kernel, Nest};
+use dt_nest::{Nest, has_kernel};
 
 /// Whether the nest has the loop, in either branch of a precompute node.
 pub fn has_loop(nest: &Nest, v: u32) -> bool
@@ -53,20 +53,6 @@ pub fn is_among(nest: &Nest, k: u32, v: u32) -> bool
     }
 }
 
-fn is_kernel_leaf(nest: &Nest) -> bool
-    ensures { result ≡ is_kernel_leaf (tree_of nest.now) }
-{
-    match nest {
-        Nest::Loop { .. } => false,
-        Nest::Pre { .. } => false,
-        Nest::Leaf { kernel, .. } => match kernel {
-            Kernel::Plain => false,
-            Kernel::Dot => true,
-            Kernel::Dot3 => true,
-        },
-    }
-}
-
 /// Whether loop `v` is walked or substituted.
 pub fn is_fixed(nest: &Nest, v: u32) -> bool
     ensures { result ≡ is_fixed v (tree_of nest.now) }
@@ -79,7 +65,7 @@ pub fn is_fixed(nest: &Nest, v: u32) -> bool
             ..
         } => {
             if *var == v {
-                walk.is_some() || is_kernel_leaf(body)
+                walk.is_some() || has_kernel(body)
             } else {
                 is_fixed(body, v)
             }
