@@ -1,5 +1,5 @@
-# What the benchmarks of whole jobs share; `bench/reading.sh`, `bench/statement.sh` and `bench/schedule.sh` read it from the
-# top of the repository.
+# What the benchmarks of whole jobs share; `bench/reading.sh`, `bench/statement.sh`, `bench/schedule.sh` and `bench/guards.sh`
+# read it from the top of the repository.
 # It wants valgrind, and crates/distal/out/distal as `rt ci` or `./distal` builds it.
 program=crates/distal/out/distal
 folder=$(mktemp -d)
