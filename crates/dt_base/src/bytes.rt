@@ -1,8 +1,11 @@
 //! Bytes, and lists of them.
 
-ghost use Rattle.std.specs.Prelude.{◌≡◌, ◌==◌, [], ◌∷◌, ◌++◌, length, IfOk, OnOk, OnErr};
+ghost use Rattle.std.specs.Prelude.{◌≡◌, ◌==◌, [], ◌∷◌, ◌++◌, length, map, IfOk, OnOk, OnErr};
+ghost use Rattle.std.specs.List.{flat_map, join_with_byte};
+ghost use Rattle.dt_base.specs.Fronts.{IsFrontOf};
 
 use crate::no_memory::NoMemory;
+use itoa::{Buffer, Integer};
 use std::alloc::Global;
 use std::marker::Model;
 
@@ -74,6 +77,41 @@ impl Bytes {
         ensures err { OnErr result (self.new ≡ self.old) }
     {
         self.items.extend_from_slice(more)?;
+        Ok(())
+    }
+
+    /// Puts a number in decimal at the end.
+    pub fn append_number<I: Integer>(&mut self, n: I) -> Result<(), NoMemory>
+        ensures ok { OnOk result (self.new ≡ self.old ++ I.text n) }
+        ensures err { OnErr result (self.new ≡ self.old) }
+    {
+        let mut buffer = Buffer::new();
+        self.append(buffer.format(n).as_bytes())
+    }
+
+    /// Puts the numbers in decimal at the end, with the byte between each two.
+    pub fn append_joined<I: Integer>(&mut self, numbers: &[I], between: u8) -> Result<(), NoMemory>
+        ensures ok { OnOk result (self.new ≡ self.old ++ join_with_byte between (map I.text numbers.now)) }
+        ensures err { OnErr result (IsFrontOf self.old self.new) }
+    {
+        match numbers {
+            [] => Ok(()),
+            [first, rest @ ..] => {
+                self.append_number(*first)?;
+                self.append_each(rest, between)
+            }
+        }
+    }
+
+    /// Puts the numbers in decimal at the end, the byte before each.
+    fn append_each<I: Integer>(&mut self, numbers: &[I], before: u8) -> Result<(), NoMemory>
+        ensures ok { OnOk result (self.new ≡ self.old ++ flat_map (λ n. before ∷ I.text n) numbers.now) }
+        ensures err { OnErr result (IsFrontOf self.old self.new) }
+    {
+        for n in numbers {
+            self.append(&[before])?;
+            self.append_number(*n)?;
+        }
         Ok(())
     }
 }

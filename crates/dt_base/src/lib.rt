@@ -7,6 +7,7 @@ mod coords;
 mod name;
 mod no_memory;
 mod numbers;
+mod short_text;
 #[cfg(test)]
 mod tests;
 
@@ -15,3 +16,4 @@ pub use coords::Coords;
 pub use name::{Name, Names};
 pub use no_memory::NoMemory;
 pub use numbers::{Extents, Numbers, Vars, Words};
+pub use short_text::ShortText;

@@ -5,6 +5,7 @@ use crate::coords::Coords;
 use crate::name::{Name, Names};
 use crate::no_memory::NoMemory;
 use crate::numbers::{Extents, Numbers, Vars, Words};
+use crate::short_text::ShortText;
 use std::test::Fail;
 
 #[test]
@@ -15,6 +16,23 @@ fn bytes_are_appended(rt: HostRuntime) -> Result<(), Fail> {
     assert_eq!(rt; text.len(), 5);
     let text = Bytes::from_vec(text.into_vec());
     assert_eq!(rt; text.as_slice(), b"loops".as_slice());
+    Ok(())
+}
+
+#[test]
+fn numbers_are_put_in_decimal(rt: HostRuntime) -> Result<(), Fail> {
+    let mut text = Bytes::new(rt.alloc());
+    text.append_joined::<u32>(&[], b'x')?;
+    text.append_joined(&[0u32, 10, 4096], b'x')?;
+    text.append_number(u64::MAX)?;
+    assert_eq!(rt;
+        text.as_slice(),
+        b"0x10x409618446744073709551615".as_slice()
+    );
+    let mut short = ShortText::new();
+    short.append(b"line ");
+    short.append_number(u32::MAX);
+    assert_eq!(rt; short.as_slice(), b"line 4294967295".as_slice());
     Ok(())
 }
 

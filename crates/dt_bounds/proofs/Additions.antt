@@ -2,7 +2,7 @@
 use Rattle.std.proofs.Common.{◌≡◌, ℕ, zero, suc, ◌<◌, Bool, true, false, ◌||◌, ◌&&◌, List, [], ◌∷◌, length, get_or, refl, ap, sym, ◌∙◌, arith}
 use Rattle.std.specs.Prelude.{nat_lt}
 use Rattle.std.specs.List.{AllByRecursion, flat_map}
-use Rattle.dt_nest.specs.Agree.{all_parts}
+use Rattle.dt_nest.proofs.Agree.{all_parts}
 use Rattle.dt_runs.specs.Sets.{contains}
 use Rattle.dt_bounds.specs.Found.{Adds}
 

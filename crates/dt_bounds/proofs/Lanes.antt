@@ -4,6 +4,7 @@ use Rattle.std.specs.Prelude.{MatchOption, nat_eq, slice_set}
 use Rattle.std.specs.List.{AllByRecursion, filter, list_any, range_with_len}
 use Rattle.std.proofs.lemmas.List.Elements.{filter-append}
 use Rattle.std.proofs.lemmas.List.Folds.{list_any-append}
+use Rattle.dt_base.proofs.Ranges.{range_with_len-more}
 use Rattle.dt_model.specs.Positions.{StoredTensor, coords_at}
 use Rattle.dt_model.specs.declared.stmt.Access.{Access}
 use Rattle.dt_model.specs.declared.stmt.Term.{Term}
@@ -11,11 +12,12 @@ use Rattle.dt_nest.specs.Tree.{read_accesses}
 use Rattle.dt_nest.specs.Meaning.{Env, renamed}
 use Rattle.dt_nest.specs.World.{world_of}
 use Rattle.dt_nest.specs.Lawful.{Loops, Follows}
-use Rattle.dt_nest.specs.Each.{all_map}
-use Rattle.dt_nest.specs.Agree.{follows_more}
+use Rattle.dt_nest.proofs.Each.{all_map}
+use Rattle.dt_nest.proofs.Agree.{follows_more}
 use Rattle.dt_nest.specs.Visits.{Lanes, Item, IsReset, IsVisit, slots_of, value_in, is_accessed}
+use Rattle.dt_nest.specs.Point.{visit_in, slots_with, env_in, env_at, valid_in, valid_of}
 use Rattle.dt_nest.specs.Run.{Run, AreAscending, AreValued, IsExtent, OnLanes, OnVisit, among, is_among, with_lane}
-use Rattle.dt_bounds.specs.Points.{AreValuedAt, IsVisitOf, accesses_in, env_at, env_of, is_lane_reached, is_reached, is_some_lane_reached, item_touches, last_touches, slots_with, valid_in, valid_of}
+use Rattle.dt_bounds.specs.Points.{AreValuedAt, IsVisitOf, accesses_in, is_lane_reached, is_reached, is_some_lane_reached, item_touches, last_touches}
 use Rattle.dt_bounds.proofs.Additions.{or_false}
 
 -- Values ---------------------------------------------------------------------------------------------------------------
@@ -34,31 +36,26 @@ pub lane_valued : (r : Run) (x : ℕ) (lhs : Access) (terms : List Term) → IsV
 lane_valued r x lhs terms is valued = go r.last is valued
   where
     go : (last : Option Item) → OnVisit last (λ visit. (visit.leaf.lhs ≡ lhs) × (visit.leaf.terms ≡ terms))
-        → OnVisit last (λ visit. AllByRecursion (λ u. OnVisit last (λ v. Follows r.sched.derived (among r.around) (renamed v.pairs) (renamed v.pairs u))) visit.leaf.lhs.vars
-        × AllByRecursion (λ a. AllByRecursion (λ u. OnVisit last (λ v. Follows r.sched.derived (with_lane v.lanes (among r.around)) (renamed v.pairs) (renamed v.pairs u))) a.vars) (read_accesses visit.leaf.terms))
-        → AllByRecursion (λ a. AllByRecursion (λ u. OnVisit last (λ v. Follows r.sched.derived (with_lane v.lanes (among r.around)) (renamed v.pairs) (renamed v.pairs u))) a.vars) (accesses_in lhs terms)
+        → OnVisit last (λ visit. AllByRecursion (λ u. OnVisit last (λ v. Follows r.sched.derived (among v.around) (renamed v.pairs) (renamed v.pairs u))) visit.leaf.lhs.vars
+        × AllByRecursion (λ a. AllByRecursion (λ u. OnVisit last (λ v. Follows r.sched.derived (with_lane v.lanes (among v.around)) (renamed v.pairs) (renamed v.pairs u))) a.vars) (read_accesses visit.leaf.terms))
+        → AllByRecursion (λ a. AllByRecursion (λ u. OnVisit last (λ v. Follows r.sched.derived (with_lane v.lanes (among v.around)) (renamed v.pairs) (renamed v.pairs u))) a.vars) (accesses_in lhs terms)
     go None is valued = absurd is
     go (Some (IsReset work)) is valued = absurd is
     go (Some (IsVisit visit)) is valued =
-        let P : ℕ → Type 0 = λ u. Follows r.sched.derived (among r.around) (renamed visit.pairs) (renamed visit.pairs u) in
-        let Q : ℕ → Type 0 = λ u. Follows r.sched.derived (with_lane visit.lanes (among r.around)) (renamed visit.pairs) (renamed visit.pairs u) in
-        let more : (u : ℕ) → P u → Q u = λ u f. follows_more r.sched.derived (among r.around) (with_lane visit.lanes (among r.around)) (renamed visit.pairs) (more_around visit.lanes (among r.around)) (renamed visit.pairs u) f in (
+        let P : ℕ → Type 0 = λ u. Follows r.sched.derived (among visit.around) (renamed visit.pairs) (renamed visit.pairs u) in
+        let Q : ℕ → Type 0 = λ u. Follows r.sched.derived (with_lane visit.lanes (among visit.around)) (renamed visit.pairs) (renamed visit.pairs u) in
+        let more : (u : ℕ) → P u → Q u = λ u f. follows_more r.sched.derived (among visit.around) (with_lane visit.lanes (among visit.around)) (renamed visit.pairs) (more_around visit.lanes (among visit.around)) (renamed visit.pairs u) f in (
           subst (λ (a : Access). AllByRecursion Q a.vars) is.0 (all_map P Q more visit.leaf.lhs.vars valued.0),
           subst (λ (ts : List Term). AllByRecursion (λ a. AllByRecursion Q a.vars) (read_accesses ts)) is.1 valued.1,
         )
 
 -- Valid values -----------------------------------------------------------------------------------------------------------
 
--- one more number of a range
-range_more : (a n : ℕ) → range_with_len a (suc n) ≡ range_with_len a n ++ (a + n) ∷ []
-range_more a zero = let e : a ≡ a + 0 = omega arith in ap (λ (z : ℕ). z ∷ []) e
-range_more a (suc n) = let e : a + 1 + n ≡ a + suc n = omega arith in ap (λ (l : List ℕ). a ∷ l) (range_more (a + 1) n ∙ ap (λ (z : ℕ). range_with_len (a + 1) n ++ z ∷ []) e)
-
 -- one more value of a substituted loop
 pub lane_more : (r : Run) (t : StoredTensor) (tensor : ℕ) (accesses : List Access) (n p : ℕ)
     → is_some_lane_reached r t tensor accesses (n + 1) p ≡ (is_some_lane_reached r t tensor accesses n p || is_lane_reached r t tensor accesses n p)
 lane_more r t tensor accesses n p =
-    ap (λ (l : List ℕ). list_any F (filter q l)) (ap (range_with_len 0) (add-one n) ∙ range_more 0 n)
+    ap (λ (l : List ℕ). list_any F (filter q l)) (ap (range_with_len 0) (add-one n) ∙ range_with_len-more 0 n)
     ∙ ap (λ (l : List ℕ). list_any F l) (filter-append q (range_with_len 0 n) ((0 + n) ∷ [])) ∙ list_any-append F (filter q (range_with_len 0 n)) (filter q ((0 + n) ∷ []))
     ∙ ap (λ (b : Bool). list_any F (filter q (range_with_len 0 n)) || b) (one (0 + n) ∙ ap (λ (k : ℕ). q k && F k) (let e : 0 + n ≡ n = omega arith in e))
   where
@@ -66,7 +63,7 @@ lane_more r t tensor accesses n p =
     F x = is_reached t tensor (env_at r (Some x)) accesses p
 
     q : ℕ → Bool
-    q x = is_among x (valid_of r.last)
+    q x = is_among x (valid_of r)
 
     one : (k : ℕ) → list_any F (filter q (k ∷ [])) ≡ (q k && F k)
     one k = go (q k)
@@ -88,10 +85,11 @@ only_point F V slots None e = sym (or_false (F (V slots)))
 only_point F V slots (Some lanes) e = absurd (cc)
 
 pub plain_touched : (r : Run) (t : StoredTensor) (tensor : ℕ) (lhs : Access) (terms : List Term) → IsVisitOf r lhs terms → IsExtent r None → (p : ℕ) → is_reached t tensor (env_at r None) (accesses_in lhs terms) p ≡ last_touches r t tensor p
+unfolding env_at
 plain_touched r t tensor lhs terms is none p = go r.last is none
   where
     go : (last : Option Item) → OnVisit last (λ visit. (visit.leaf.lhs ≡ lhs) × (visit.leaf.terms ≡ terms)) → OnVisit last (λ visit. ◌≡◌ {A = Option ℕ} None (option_map (λ (lanes : Lanes). lanes.extent) visit.lanes))
-        → is_accessed tensor (coords_at t p) (env_of (world_of r.stored r.sched) r.sched.derived last None) (accesses_in lhs terms) ≡ item_touches (world_of r.stored r.sched) r.sched.derived tensor (coords_at t p) last
+        → is_accessed tensor (coords_at t p) (env_in (world_of r.stored r.sched) r.sched.derived (visit_in last) None) (accesses_in lhs terms) ≡ item_touches (world_of r.stored r.sched) r.sched.derived tensor (coords_at t p) last
     go None is none = absurd is
     go (Some (IsReset work)) is none = absurd is
     go (Some (IsVisit visit)) is none =
@@ -111,10 +109,11 @@ valid_points F V slots extent (Some lanes) h =
 
 pub lanes_touched : (r : Run) (t : StoredTensor) (tensor extent : ℕ) (lhs : Access) (terms : List Term) → IsVisitOf r lhs terms → OnLanes r (λ lanes. (extent ≡ lanes.extent) × AreAscending (Some lanes))
     → (p : ℕ) → is_some_lane_reached r t tensor (accesses_in lhs terms) extent p ≡ last_touches r t tensor p
+unfolding env_at
 lanes_touched r t tensor extent lhs terms is lanes p = go r.last is lanes
   where
     go : (last : Option Item) → OnVisit last (λ visit. (visit.leaf.lhs ≡ lhs) × (visit.leaf.terms ≡ terms)) → OnVisit last (λ visit. MatchOption visit.lanes ⊥ (λ lanes. (extent ≡ lanes.extent) × AreAscending (Some lanes)))
-        → list_any (λ x. is_accessed tensor (coords_at t p) (env_of (world_of r.stored r.sched) r.sched.derived last (Some x)) (accesses_in lhs terms)) (filter (λ x. is_among x (valid_of last)) (range_with_len 0 extent))
+        → list_any (λ x. is_accessed tensor (coords_at t p) (env_in (world_of r.stored r.sched) r.sched.derived (visit_in last) (Some x)) (accesses_in lhs terms)) (filter (λ x. is_among x (valid_in (visit_in last).lanes)) (range_with_len 0 extent))
         ≡ item_touches (world_of r.stored r.sched) r.sched.derived tensor (coords_at t p) last
     go None is lanes = absurd is
     go (Some (IsReset work)) is lanes = absurd is

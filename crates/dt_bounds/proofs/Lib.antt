@@ -3,5 +3,11 @@ pub mod Sorting
 pub mod Places
 pub mod Lanes
 pub mod PositionSets
-pub mod StmtSchedules
 pub mod VisitsAdd
+pub mod PathNeeds
+pub mod PathAccesses
+pub mod PathSilent
+pub mod PathHeld
+pub mod PathUnitSums
+pub mod PathTasks
+pub mod PathInside

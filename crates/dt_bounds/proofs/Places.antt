@@ -14,12 +14,12 @@ use Rattle.dt_model.specs.PositionLaws.{HasOrderedPositions}
 use Rattle.dt_model.specs.Shape.{are_extents, is_extent, shape_of_extents}
 use Rattle.dt_model.specs.declared.shape.Shape.{Shape}
 use Rattle.dt_model.specs.declared.stmt.Access.{Access}
-use Rattle.dt_model.proofs.Firsts.{bytes_eq-same}
+use Rattle.dt_base.proofs.Firsts.{bytes_eq-same}
 use Rattle.dt_model.proofs.PositionFacts.{ordered_positions}
 use Rattle.dt_model.proofs.ShapeFacts.{both, extent_facts}
-use Rattle.dt_nest.specs.Each.{all_filter, all_flat, all_get, all_made, below_all}
+use Rattle.dt_nest.proofs.Each.{all_filter, all_flat, all_get, all_made, below_all}
 use Rattle.dt_nest.specs.Meaning.{Env}
-use Rattle.dt_tensor.proofs.Assignments.{length-assignments}
+use Rattle.dt_base.proofs.Assignments.{length-assignments}
 use Rattle.dt_bounds.specs.Found.{is_at}
 use Rattle.dt_bounds.specs.Points.{is_reached}
 use Rattle.dt_bounds.proofs.Additions.{or_false}

@@ -8,26 +8,14 @@ use Rattle.std.proofs.lemmas.Bool.Decides.{nat_tests}
 use Rattle.std.proofs.lemmas.List.Folds.{list_any_at}
 use Rattle.dt_base.specs.Ranges.{below}
 use Rattle.dt_model.proofs.ShapeFacts.{both}
-use Rattle.dt_runs.specs.Intervals.{ascending}
 use Rattle.dt_runs.specs.Sets.{contains}
-use Rattle.dt_runs.proofs.SetLemmas.{Ascends, Ascends-ascending, contains-range, filter_by_contains}
-use Rattle.dt_runs.proofs.WholeBoxes.{range-below}
-
--- the numbers below n ascend
-below_ascends : (n : ℕ) → Ascends 0 (below n)
-below_ascends n = subst (λ (l : List ℕ). Ascends 0 l) (append-nil (ascending 0 (n - 0)) ∙ range-below n) (Ascends-ascending 0 (n - 0) [] tt)
-
--- and they are those below it
-contains-below : (n x : ℕ) → contains (below n) x ≡ nat_lt x n
-contains-below n x = ap (λ (l : List ℕ). contains l x) (sym (range-below n)) ∙ contains-range 0 n x ∙ first (nat_lt x n) (nat_le 0 x) (grind (arith, nat_tests))
-  where
-    first : (b c : Bool) → c ≡ true → (c && b) ≡ b
-    first b c h = ap (λ (d : Bool). d && b) h
+use Rattle.dt_runs.proofs.BelowSets.{Ascends-below, contains-below}
+use Rattle.dt_runs.proofs.SetLemmas.{filter_by_contains}
 
 -- the ascending list of the positions that pass a test
 pub positions_are : (p : ℕ → Bool) (n : ℕ) (found runs : List ℕ) → ((x : ℕ) → contains found x ≡ (nat_lt x n && p x)) → IsStrictlyIncreasing runs → ((x : ℕ) → contains runs x ≡ contains found x) → runs ≡ filter p (below n)
 positions_are p n found runs h up same =
-    filter_by_contains p runs (below n) (below_ascends n) up (λ x. same x ∙ h x ∙ ap (λ (b : Bool). b && p x) (sym (contains-below n x)))
+    filter_by_contains p runs (below n) (Ascends-below n) up (λ x. same x ∙ h x ∙ ap (λ (b : Bool). b && p x) (sym (contains-below n x)))
 
 -- positions that pass a test are positions
 pub positions_below : (p : ℕ → Bool) (n m : ℕ) (found : List ℕ) → n ≤ m → ((x : ℕ) → contains found x ≡ (nat_lt x n && p x)) → All (λ x. x < m) found

@@ -1,2 +1,4 @@
 pub mod Found
 pub mod Points
+pub mod NeededPaths
+pub mod TaskUnits

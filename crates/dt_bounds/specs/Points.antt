@@ -1,5 +1,5 @@
--- A point of a visit: the visit itself, or one valid value of its substituted loop.
-use Rattle.std.specs.Prelude.{◌≡◌, ℕ, ◌<◌, Bool, true, false, ◌&&◌, List, [], ◌∷◌, length, Option, Some, None, nat_lt, slice_set}
+-- Where the accesses of a leaf stand at the points of a visit.
+use Rattle.std.specs.Prelude.{◌≡◌, ℕ, ◌<◌, Bool, false, ◌&&◌, List, ◌∷◌, length, Option, Some, None, nat_lt}
 use Rattle.std.specs.List.{AllByRecursion, filter, list_any, range_with_len}
 use Rattle.dt_model.specs.Positions.{StoredTensor, IsStored, coords_at, tensor_at}
 use Rattle.dt_model.specs.declared.stmt.Access.{Access}
@@ -8,39 +8,14 @@ use Rattle.dt_nest.specs.declared.derivations.Derived.{Derived}
 use Rattle.dt_nest.specs.Tree.{read_accesses}
 use Rattle.dt_nest.specs.Meaning.{World, Env}
 use Rattle.dt_nest.specs.World.{world_of}
-use Rattle.dt_nest.specs.Visits.{Lanes, Item, IsReset, IsVisit, value_in, is_accessed, touches}
-use Rattle.dt_nest.specs.Run.{Run, HasValue, HasLaneValue, OnLanes, OnVisit, is_among}
+use Rattle.dt_nest.specs.Visits.{Item, is_accessed, touches}
+use Rattle.dt_nest.specs.Point.{HasValueAt, env_at, valid_of}
+use Rattle.dt_nest.specs.Run.{Run, OnVisit, is_among}
 use Rattle.dt_bounds.specs.Found.{Adds}
 
--- the value of the lane is a valid one of the last visit's substituted loop, where a lane is given
-abbrev pub IsPoint : Run → Option ℕ → Type 0
-IsPoint r None = Unit {0}
-IsPoint r (Some x) = OnLanes r (λ lanes. is_among x lanes.valid ≡ true)
-
--- the variable has a value at the point
-abbrev pub HasValueAt : Run → Option ℕ → ℕ → Type 0
-HasValueAt r None u = HasValue r u
-HasValueAt r (Some x) u = HasLaneValue r u
-
--- each variable of each access has one
+-- each variable of each access has a value at the point
 abbrev pub AreValuedAt : Run → Option ℕ → List Access → Type 0
 AreValuedAt r lane accesses = AllByRecursion (λ a. AllByRecursion (HasValueAt r lane) a.vars) accesses
-
--- the slots of a visit, with the value of the lane in the slot of the substituted loop
-abbrev pub slots_with : List ℕ → Option Lanes → Option ℕ → List ℕ
-slots_with slots lanes None = slots
-slots_with slots None (Some x) = slots
-slots_with slots (Some lanes) (Some x) = slice_set slots lanes.var x
-
--- the values of the variables at a point of an item, and 0 where the item is no visit
-abbrev pub env_of : World → List Derived → Option Item → Option ℕ → Env
-env_of w ds None lane u = 0
-env_of w ds (Some (IsReset work)) lane u = 0
-env_of w ds (Some (IsVisit visit)) lane u = value_in w ds visit.pairs (slots_with visit.slots visit.lanes lane) u
-
--- the values of the variables at a point of the last visit
-abbrev pub env_at : Run → Option ℕ → Env
-env_at r lane = env_of (world_of r.stored r.sched) r.sched.derived r.last lane
 
 -- whether one of the accesses stands at the position
 abbrev pub is_reached : StoredTensor → ℕ → Env → List Access → ℕ → Bool
@@ -72,20 +47,9 @@ accesses_in lhs terms = lhs ∷ read_accesses terms
 abbrev pub IsVisitOf : Run → Access → List Term → Type 0
 IsVisitOf r lhs terms = OnVisit r.last (λ visit. (visit.leaf.lhs ≡ lhs) × (visit.leaf.terms ≡ terms))
 
--- the valid values of a visit's substituted loop
-abbrev pub valid_in : Option Lanes → List ℕ
-valid_in None = []
-valid_in (Some lanes) = lanes.valid
-
--- the valid values of an item's substituted loop
-abbrev pub valid_of : Option Item → List ℕ
-valid_of None = []
-valid_of (Some (IsReset work)) = []
-valid_of (Some (IsVisit visit)) = valid_in visit.lanes
-
 -- whether x is a valid value of the last visit, at which one of the accesses stands at the position
 abbrev pub is_lane_reached : Run → StoredTensor → ℕ → List Access → ℕ → ℕ → Bool
-is_lane_reached r t tensor accesses x p = is_among x (valid_of r.last) && is_reached t tensor (env_at r (Some x)) accesses p
+is_lane_reached r t tensor accesses x p = is_among x (valid_of r) && is_reached t tensor (env_at r (Some x)) accesses p
 
 -- whether a position of the tensor is touched by one of the items
 abbrev pub is_touched : World → List Derived → StoredTensor → ℕ → List Item → ℕ → Bool
@@ -93,4 +57,4 @@ is_touched w ds t tensor items p = nat_lt p (length t.coords) && list_any (touch
 
 -- whether one of the accesses stands at the position at some valid value below a number
 abbrev pub is_some_lane_reached : Run → StoredTensor → ℕ → List Access → ℕ → ℕ → Bool
-is_some_lane_reached r t tensor accesses n p = list_any (λ x. is_reached t tensor (env_at r (Some x)) accesses p) (filter (λ x. is_among x (valid_of r.last)) (range_with_len 0 n))
+is_some_lane_reached r t tensor accesses n p = list_any (λ x. is_reached t tensor (env_at r (Some x)) accesses p) (filter (λ x. is_among x (valid_of r)) (range_with_len 0 n))

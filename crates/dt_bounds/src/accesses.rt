@@ -6,7 +6,8 @@ ghost use Rattle.dt_model.specs.Positions.{tensor_at};
 ghost use Rattle.dt_nest.specs.Tree.{read_accesses, factor_accesses};
 ghost use Rattle.dt_nest.specs.Run.{AreAscending, AreValued, IsAtLeaf, OnLanes};
 ghost use Rattle.dt_bounds.specs.Found.{Adds, is_at};
-ghost use Rattle.dt_bounds.specs.Points.{AddsReached, AreValuedAt, HasValueAt, IsPoint, IsTarget, IsVisitOf, accesses_in, env_at, is_lane_reached, is_reached, last_touches};
+ghost use Rattle.dt_nest.specs.Point.{HasValueAt, IsPoint, env_at};
+ghost use Rattle.dt_bounds.specs.Points.{AddsReached, AreValuedAt, IsTarget, IsVisitOf, accesses_in, is_lane_reached, is_reached, last_touches};
 
 use crate::found::push_position;
 use dt_base::NoMemory;
@@ -34,18 +35,6 @@ pub struct Found {
     pub coords: Vec<u32>,
 }
 
-/// The value of a variable at the last visit, where its substituted loop has the value of the lane, if one is given.
-fn value_at<L: Locator>(visits: &Visits<L>, lane: Option<u32>, var: u32) -> u64
-    requires point { IsPoint visits.now lane }
-    requires valued { HasValueAt visits.now lane var }
-    ensures { result ≡ env_at visits.now lane var }
-{
-    match lane {
-        None => visits.eval(var),
-        Some(x) => visits.eval_lane(x, var),
-    }
-}
-
 /// The number, or the greatest of 32 bits where that is less. No tensor stores a coordinate so great.
 fn clipped(value: u64) -> u32
     ensures { result ≡ min value 4294967295 }
@@ -66,7 +55,7 @@ fn write_coordinates<L: Locator>(
 {
     coords.clear();
     for var in vars {
-        coords.push(clipped(value_at(visits, lane, *var)))?;
+        coords.push(clipped(visits.value_at(lane, *var)))?;
     }
     Ok(())
 }

@@ -3,12 +3,15 @@
 
 mod accesses;
 mod found;
+mod path_laws;
 mod paths;
-#[cfg(test)]
-mod statements;
-#[cfg(test)]
-mod tests;
 mod words;
 
+pub use path_laws::{
+    accesses_are_needed, fronts_need_more, left_is_needed, needed_follows_paths,
+    needed_follows_visited, needed_over_paths, needed_shrinks, not_needed_adds_nothing,
+    tasks_add_the_sum, tasks_are_defined, tasks_leave_others, units_are_defined,
+    units_follow_effects, units_keep_held, visits_have_left,
+};
 pub use paths::is_path;
 pub use words::needed;

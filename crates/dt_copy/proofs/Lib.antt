@@ -1,2 +1,4 @@
 pub mod Shared
 pub mod Once
+pub mod Serving
+pub mod Reaching

@@ -14,20 +14,12 @@ mod occurrences;
 mod offenders;
 mod parsing;
 mod printing;
-#[cfg(test)]
-mod printing_tests;
 mod resolving;
 mod symbol_list;
 mod symbols;
-#[cfg(test)]
-mod tests;
 mod uneven;
 
-pub use form::{Form, NamedAccess, NamedFactor, NamedFactors, NamedTerm, NamedTerms};
-pub use form_reading::read_form;
+pub use dt_model::LineEnd as StmtEnd;
 pub use lookup::Lookup;
 pub use parsing::parse_stmt;
 pub use printing::{print_stmt, printed_is_read_again};
-pub use resolving::resolve;
-pub use symbol_list::{Symbol, Symbols};
-pub use symbols::read_symbols;

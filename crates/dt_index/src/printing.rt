@@ -1,7 +1,6 @@
 //! The text of a statement.
 
 ghost use Rattle.std.specs.Prelude.{◌≡◌, ◌++◌, codes, map, IfOk, OnOk};
-ghost use Rattle.std.specs.Fmt.{decimal};
 ghost use Rattle.std.specs.List.{flat_map, join_by};
 ghost use Rattle.dt_index.specs.Printed.{PrintingLaw, access_text, assignment_text, factor_text, first_sign, name_at, named_access, named_factor, named_term, next_sign, stmt_text, term_text, terms_text, vars_text};
 
@@ -22,7 +21,6 @@ pub fn print_stmt(
     put_access(&mut out, &stmt.lhs, vars.as_slice(), tensors.as_slice())?;
     out.append(assignment(stmt.adds))?;
     put_terms(
-        alloc,
         &mut out,
         stmt.terms.as_slice(),
         vars.as_slice(),
@@ -43,7 +41,6 @@ fn assignment(adds: bool) -> &'static [u8]
 }
 
 fn put_terms(
-    alloc: Global,
     out: &mut Bytes,
     terms: &[Term],
     vars: &[Name],
@@ -55,15 +52,14 @@ fn put_terms(
         None => Ok(()),
         Some((first, rest)) => {
             out.append(first_sign(first.minus))?;
-            put_term(alloc, out, first, vars, tensors)?;
-            put_more_terms(alloc, out, rest, vars, tensors)
+            put_term(out, first, vars, tensors)?;
+            put_more_terms(out, rest, vars, tensors)
         }
     }
 }
 
 /// Puts the terms, a sign before each.
 fn put_more_terms(
-    alloc: Global,
     out: &mut Bytes,
     terms: &[Term],
     vars: &[Name],
@@ -73,7 +69,7 @@ fn put_more_terms(
 {
     for term in terms {
         out.append(next_sign(term.minus))?;
-        put_term(alloc, out, term, vars, tensors)?;
+        put_term(out, term, vars, tensors)?;
     }
     Ok(())
 }
@@ -90,27 +86,20 @@ fn next_sign(minus: bool) -> &'static [u8]
     if minus { b" - " } else { b" + " }
 }
 
-fn put_term(
-    alloc: Global,
-    out: &mut Bytes,
-    term: &Term,
-    vars: &[Name],
-    tensors: &[Name],
-) -> Result<(), NoMemory>
+fn put_term(out: &mut Bytes, term: &Term, vars: &[Name], tensors: &[Name]) -> Result<(), NoMemory>
     ensures { OnOk result (out.new ≡ out.old ++ term_text (named_term vars.now tensors.now term.now)) }
 {
     match term.factors.as_slice().split_first() {
         None => Ok(()),
         Some((first, rest)) => {
-            put_factor(alloc, out, first, vars, tensors)?;
-            put_more_factors(alloc, out, rest, vars, tensors)
+            put_factor(out, first, vars, tensors)?;
+            put_more_factors(out, rest, vars, tensors)
         }
     }
 }
 
 /// Puts the factors, `*` before each.
 fn put_more_factors(
-    alloc: Global,
     out: &mut Bytes,
     factors: &[Factor],
     vars: &[Name],
@@ -120,13 +109,12 @@ fn put_more_factors(
 {
     for factor in factors {
         out.append(b" * ")?;
-        put_factor(alloc, out, factor, vars, tensors)?;
+        put_factor(out, factor, vars, tensors)?;
     }
     Ok(())
 }
 
 fn put_factor(
-    alloc: Global,
     out: &mut Bytes,
     factor: &Factor,
     vars: &[Name],
@@ -136,15 +124,8 @@ fn put_factor(
 {
     match factor {
         Factor::Read(access) => put_access(out, access, vars, tensors),
-        Factor::Literal(value) => put_number(alloc, out, *value),
+        Factor::Literal(value) => out.append_number(*value),
     }
-}
-
-fn put_number(alloc: Global, out: &mut Bytes, value: u64) -> Result<(), NoMemory>
-    ensures { OnOk result (out.new ≡ out.old ++ decimal value) }
-{
-    let digits = format!(in alloc; "{value}")?;
-    out.append(digits.as_bytes())
 }
 
 fn put_access(

@@ -1,6 +1,6 @@
 -- Drafts stay lawful as lines are read.
 use Rattle.std.proofs.Common.{◌≡◌, ℕ, zero, suc, ◌+◌, ◌<◌, ◌≤◌, List, [], ◌∷◌, ◌++◌, length, map, get_or, slice_get, Bool, true, false, not, cond, nat_lt, Option, Some, None, is_some, IfSome, IsSome, option_map, unwrap_or, refl, ap, sym, ◌∙◌, arith, length-append, append-nil, All, subst}
-use Rattle.std.specs.Prelude.{position}
+use Rattle.std.specs.Prelude.{position, IsSortedBy}
 use Rattle.std.specs.Str.{bytes_eq}
 use Rattle.std.specs.List.{prefix_len, AllByRecursion, IsDistinct}
 use Rattle.std.specs.Map.{lookup}
@@ -17,17 +17,18 @@ use Rattle.indexmap.specs.Layout.{set_value_at}
 use Rattle.indexmap.proofs.MapLemmas.{some_index}
 use Rattle.dt_job.specs.declared.outputs.Show.{Show}
 use Rattle.dt_job.specs.declared.outputs.Show.TheVariants.{Print}
-use Rattle.dt_place.specs.Machines.{MachineView}
+use Rattle.dt_place.specs.Machines.{MachineView, dims_of}
 use Rattle.dt_place.specs.declared.placements.Placement.{Placement}
 use Rattle.dt_place.specs.declared.placements.Placement.TheVariants.{FirstNode}
 use Rattle.dt_job.specs.Contents.{Content, Contents, extents_of_all, known_of, names_of, placement_of, places_of, stored_of_all, tensor_of, tensors_of, with_placement, with_values}
-use Rattle.dt_job.specs.Drafts.{DraftView, FitsMachine, IsDraft, IsPlaced, IsScheduled, part_of, stated}
+use Rattle.dt_job.specs.Drafts.{DraftView, FitsMachine, IsDraft, IsPlaced, IsScheduled, grid_of, part_of, stated}
 use Rattle.dt_job.specs.Jobs.{FitsOn, IsJob, IsJobStmt, IsJobTensor, ShowsBelow}
 use Rattle.dt_job.specs.PartsOf.{ArePartsOf}
 use Rattle.dt_job.specs.Phases.{is_past_declarations, knows_machine, open_stmt, takes_declaration, takes_machine}
 use Rattle.dt_job.specs.Read.{job_on}
 use Rattle.dt_job.specs.declared.phases.Phase.{Phase}
 use Rattle.dt_job.specs.declared.phases.Phase.TheVariants as phases
+use Rattle.dt_job.specs.declared.parts.Part.{Part}
 use Rattle.dt_job.specs.declared.scheduled.Scheduled.{Scheduled}
 use Rattle.dt_job.specs.declared.job.Job.{Job}
 use Rattle.dt_job.proofs.PhaseFacts.{declaration_phase, machine_phase}
@@ -83,7 +84,7 @@ changed_tensors d tensors early h placed more few differ stored = record {
   differ = differ;
   stored = stored;
   few_stmts = h.few_stmts;
-  stmts = (let P : List Scheduled → Type 0 = λ l. All (IsScheduled tensors) l in subst P (sym (h.begun (declaration_phase d.phase early))) (λ k s l. absurd (omega (arith, l))));
+  stmts = (let P : List Scheduled → Type 0 = λ l. All (IsScheduled (grid_of d.machine) tensors) l in subst P (sym (h.begun (declaration_phase d.phase early))) (λ k s l. absurd (omega (arith, l))));
   begun = h.begun;
   shows = λ k s l. below_more (length d.tensors) (length tensors) (get_or d.shows k s) (omega (arith, more)) (h.shows k s l);
 }
@@ -217,8 +218,8 @@ fits_none None m h = tt
 fits_none (Some p) m h = absurd h
 
 -- no statement is lawful or not
-none_stated : (tensors : Contents) (closed : List Scheduled) → closed ≡ [] → All (IsScheduled tensors) closed
-none_stated tensors closed e = (let P : List Scheduled → Type 0 = λ l. All (IsScheduled tensors) l in subst P (sym e) (λ k s l. absurd (omega (arith, l))))
+none_stated : (dims : List ℕ) (tensors : Contents) (closed : List Scheduled) → closed ≡ [] → All (IsScheduled dims tensors) closed
+none_stated dims tensors closed e = (let P : List Scheduled → Type 0 = λ l. All (IsScheduled dims tensors) l in subst P (sym e) (λ k s l. absurd (omega (arith, l))))
 
 -- the machine comes: until then no line places a tensor
 pub machine_draft : (d : DraftView) (m : MachineView) (next : Phase) → takes_machine d.phase ≡ true → next ≡ phases.Declarations → IsDraft d → IsDraft (record d { machine = Some m; phase = next })
@@ -236,7 +237,7 @@ machine_draft d m next at n h =
       differ = h.differ;
       stored = h.stored;
       few_stmts = omega (arith, ap length closed);
-      stmts = none_stated d.tensors d.closed closed;
+      stmts = none_stated (dims_of m) d.tensors d.closed closed;
       begun = λ e. closed;
       shows = h.shows;
     })
@@ -271,13 +272,13 @@ rested_draft d closed next k e n h =
       differ = h.differ;
       stored = h.stored;
       few_stmts = omega (arith, h.few_stmts, closed_few d.closed (open_stmt d.phase));
-      stmts = closed_all (IsScheduled d.tensors) d.closed (open_stmt d.phase) h.stmts;
+      stmts = closed_all (IsScheduled (grid_of d.machine) d.tensors) d.closed (open_stmt d.phase) h.stmts;
       begun = λ e. absurd (true_not_false e);
       shows = h.shows;
     }))
 
 -- one more statement
-more_draft : (d : DraftView) (s : Scheduled) (closed : List Scheduled) → knows_machine d.phase ≡ true → length d.closed < 32 → IsScheduled d.tensors s → closed ≡ d.closed ++ s ∷ [] → IsDraft d
+more_draft : (d : DraftView) (s : Scheduled) (closed : List Scheduled) → knows_machine d.phase ≡ true → length d.closed < 32 → IsScheduled (grid_of d.machine) d.tensors s → closed ≡ d.closed ++ s ∷ [] → IsDraft d
     → IsDraft (record d { closed = closed; phase = phases.Statements })
 more_draft d s closed k few l e h =
     let C : List Scheduled → Type 0 = λ l. IsDraft (record d { closed = l; phase = phases.Statements }) in
@@ -288,20 +289,20 @@ more_draft d s closed k few l e h =
       differ = h.differ;
       stored = h.stored;
       few_stmts = omega (arith, few, length-append d.closed (s ∷ []));
-      stmts = All-push (IsScheduled d.tensors) d.closed s (closed_all (IsScheduled d.tensors) d.closed (open_stmt d.phase) h.stmts) l;
+      stmts = All-push (IsScheduled (grid_of d.machine) d.tensors) d.closed s (closed_all (IsScheduled (grid_of d.machine) d.tensors) d.closed (open_stmt d.phase) h.stmts) l;
       begun = λ e. absurd (true_not_false e);
       shows = h.shows;
     })
 
 -- a statement is closed
-pub closed_draft : (d : DraftView) (s : Scheduled) (closed : List Scheduled) (next : Phase) → knows_machine d.phase ≡ true → length d.closed < 32 → IsScheduled d.tensors s → closed ≡ d.closed ++ s ∷ [] → next ≡ phases.Statements → IsDraft d
+pub closed_draft : (d : DraftView) (s : Scheduled) (closed : List Scheduled) (next : Phase) → knows_machine d.phase ≡ true → length d.closed < 32 → IsScheduled (grid_of d.machine) d.tensors s → closed ≡ d.closed ++ s ∷ [] → next ≡ phases.Statements → IsDraft d
     → IsDraft (record d { closed = closed; phase = next })
 closed_draft d s closed next k few l e n h =
     let N : Phase → Type 0 = λ p. IsDraft (record d { closed = closed; phase = p }) in
     subst N (sym n) (more_draft d s closed k few l e h)
 
 -- a statement is opened
-pub opened_draft : (d : DraftView) (s : Scheduled) (next : Phase) → knows_machine d.phase ≡ true → length d.closed < 32 → IsScheduled d.tensors s → next ≡ phases.Open s → IsDraft d → IsDraft (record d { phase = next })
+pub opened_draft : (d : DraftView) (s : Scheduled) (next : Phase) → knows_machine d.phase ≡ true → length d.closed < 32 → IsScheduled (grid_of d.machine) d.tensors s → next ≡ phases.Open s → IsDraft d → IsDraft (record d { phase = next })
 opened_draft d s next k few l n h =
     let N : Phase → Type 0 = λ p. IsDraft (record d { phase = p }) in
     let m : IsDraft (record d { closed = d.closed ++ s ∷ []; phase = phases.Statements }) = more_draft d s (d.closed ++ s ∷ []) k few l refl h in
@@ -321,16 +322,16 @@ opened_draft d s next k few l n h =
 pub record OpenFacts (d : DraftView) (s : Scheduled) : Type 0 where
   pub known : knows_machine d.phase ≡ true
   pub few : length d.closed < 32
-  pub lawful : IsScheduled d.tensors s
+  pub lawful : IsScheduled (grid_of d.machine) d.tensors s
 
 pub open_facts : (d : DraftView) (s : Scheduled) → d.phase ≡ phases.Open s → IsDraft d → OpenFacts d s
 open_facts d s e h =
     let L : Phase → Type 0 = λ p. length (stated (record d { phase = p })) ≤ 32 in
-    let P : Phase → Type 0 = λ p. All (IsScheduled d.tensors) (stated (record d { phase = p })) in
+    let P : Phase → Type 0 = λ p. All (IsScheduled (grid_of d.machine) d.tensors) (stated (record d { phase = p })) in
     record {
       known = ap knows_machine e;
       few = omega (arith, subst L e h.few_stmts, length-append d.closed (s ∷ []));
-      lawful = open_all (IsScheduled d.tensors) d.closed s (subst P e h.stmts);
+      lawful = open_all (IsScheduled (grid_of d.machine) d.tensors) d.closed s (subst P e h.stmts);
     }
 
 -- Jobs -----------------------------------------------------------------------------------------------------------------------
@@ -357,17 +358,30 @@ stored_kept [] = refl
 stored_kept (t ∷ ts) = ap (λ (l : List StoredTensor). dense_levels t.1.extents ∷ l) (stored_kept ts)
 
 -- statements with their schedules are parts
-are_parts : (tensors : Contents) (closed : List Scheduled) → All (IsScheduled tensors) closed → ArePartsOf (stored_of_all tensors) (names_of tensors) (map (λ s. s.stmt) closed) (map part_of closed)
-are_parts tensors [] h = tt
-are_parts tensors (s ∷ closed) h = ((h 0 s (omega arith)).part, are_parts tensors closed (all_behind (IsScheduled tensors) s closed h))
+are_parts : (dims : List ℕ) (tensors : Contents) (closed : List Scheduled) → All (IsScheduled dims tensors) closed → ArePartsOf dims (stored_of_all tensors) (names_of tensors) (map (λ s. s.stmt) closed) (map part_of closed)
+are_parts dims tensors [] h = tt
+are_parts dims tensors (s ∷ closed) h = ((h 0 s (omega arith)).part, are_parts dims tensors closed (all_behind (IsScheduled dims tensors) s closed h))
+
+-- no part is in another segment than the first
+first_segment : (closed : List Scheduled) (k d : ℕ) → k < length (map (λ (p : Part). p.segment) (map part_of closed)) → get_or (map (λ (p : Part). p.segment) (map part_of closed)) k d ≡ 0
+first_segment [] k d l = absurd (omega (arith, l))
+first_segment (s ∷ closed) zero d l = refl
+first_segment (s ∷ closed) (suc k) d l = first_segment closed k d (omega (arith, l))
+
+-- so the segments never fall
+segments_stay : (closed : List Scheduled) → IsSortedBy nat_lt (map (λ (p : Part). p.segment) (map part_of closed))
+segments_stay closed k d low l =
+    ap (λ (n : ℕ). nat_lt n (get_or (map (λ (p : Part). p.segment) (map part_of closed)) k d)) (first_segment closed (k + 1) d l)
+    ∙ ap (λ (n : ℕ). nat_lt 0 n) (first_segment closed k d (omega (arith, l)))
 
 -- the job of a lawful draft
 pub lawful_job : (d : DraftView) (m : MachineView) (j : Job) → j ≡ job_on d m → d.machine ≡ Some m → IsDraft d → All IsJobTensor j.tensors → IsJob j
 lawful_job d m j e k h t =
     let P : Job → Type 0 = λ k. All IsJobTensor k.tensors in
     let Q : Option MachineView → Type 0 = λ machine. All (IsPlaced machine) d.tensors in
-    let S : List StoredTensor → Type 0 = λ l. ArePartsOf l (names_of d.tensors) (map (λ s. s.stmt) d.closed) (map part_of d.closed) in
-    let closed : All (IsScheduled d.tensors) d.closed = closed_all (IsScheduled d.tensors) d.closed (open_stmt d.phase) h.stmts in
+    let S : List StoredTensor → Type 0 = λ l. ArePartsOf (dims_of m) l (names_of d.tensors) (map (λ s. s.stmt) d.closed) (map part_of d.closed) in
+    let D : Option MachineView → Type 0 = λ machine. All (IsScheduled (grid_of machine) d.tensors) d.closed in
+    let closed : D (Some m) = subst D k (closed_all (IsScheduled (grid_of d.machine) d.tensors) d.closed (open_stmt d.phase) h.stmts) in
     subst IsJob (sym e) (record {
       named = length-map d.tensors (λ c. c.0) ∙ sym (length-map d.tensors (λ c. tensor_of c.1));
       differ = h.differ;
@@ -378,7 +392,8 @@ lawful_job d m j e k h t =
       few_stmts = omega (arith, h.few_stmts, closed_few d.closed (open_stmt d.phase), length-map d.closed (λ s. s.stmt));
       stmts = rw (shapes_kept d.tensors) (All-map (IsJobStmt (extents_of_all d.tensors)) (λ (s : Scheduled). s.stmt) d.closed (λ k s l. (closed k s l).stmt));
       headed = length-map d.closed (λ s. s.head) ∙ sym (length-map d.closed (λ s. s.stmt));
-      parts = subst S (sym (stored_kept d.tensors)) (are_parts d.tensors d.closed closed);
+      parts = subst S (sym (stored_kept d.tensors)) (are_parts (dims_of m) d.tensors d.closed closed);
+      segments = segments_stay d.closed;
       shows = λ k s l. below_more (length d.tensors) (length (tensors_of d.tensors)) (get_or d.shows k s) (omega (arith, length-map d.tensors (λ c. tensor_of c.1))) (h.shows k s l);
     })
 

@@ -1,6 +1,7 @@
 pub mod ContentFacts
 pub mod FillFacts
 pub mod FirstPart
+pub mod NextPart
 pub mod ReadLaws
 pub mod PhaseFacts
 pub mod Separating

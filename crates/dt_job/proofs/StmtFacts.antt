@@ -1,10 +1,11 @@
 -- The parts of statements: the first one, and those that commands make of it.
-use Rattle.std.proofs.Common.{◌≡◌, ℕ, suc, Bool, true, false, ◌||◌, List, [], ◌∷◌, map, refl, ap, sym, ◌∙◌, subst}
+use Rattle.std.proofs.Common.{◌≡◌, ℕ, zero, suc, ◌<◌, Bool, true, false, ◌||◌, List, [], ◌∷◌, map, refl, ap, sym, ◌∙◌, subst, arith, length, inl}
 use Rattle.std.specs.Prelude.{nat_eq}
+use Rattle.std.proofs.lemmas.Option.{slice_get_within}
 use Rattle.std.specs.List.{AllByRecursion, flat_map, list_any}
 use Rattle.std.proofs.lemmas.List.{length-map}
 use Rattle.std.proofs.lemmas.List.Folds.{list_any-append}
-use Rattle.dt_model.specs.Positions.{StoredTensor, IsStored}
+use Rattle.dt_model.specs.Positions.{StoredTensor, IsStored, tensor_at}
 use Rattle.dt_model.specs.Stmts.{IsStmt}
 use Rattle.dt_model.specs.declared.stmt.Access.{Access}
 use Rattle.dt_model.specs.declared.stmt.Factor.{Factor}
@@ -58,17 +59,25 @@ stored_extents : (shapes : List (List ℕ)) → map (λ (t : StoredTensor). t.ex
 stored_extents [] = refl
 stored_extents (ns ∷ shapes) = ap (λ (l : List (List ℕ)). ns ∷ l) (stored_extents shapes)
 
+-- each of them has dense levels alone
+dense_at : (shapes : List (List ℕ)) (k : ℕ) → k < length shapes → tensor_at (map dense_levels shapes) k ≡ dense_levels (tensor_at (map dense_levels shapes) k).extents
+dense_at [] k l = absurd (omega (arith, l))
+dense_at (ns ∷ shapes) zero l = refl
+dense_at (ns ∷ shapes) (suc k) l = dense_at shapes k (omega (arith, l))
+
 -- the schedule that a statement starts with makes a part of it
-pub first_part : (tensors : Contents) (s : Stmt) (vars : List (List ℕ)) → MeansStmt s (stmt_schedule s vars (names_of tensors)) → IsJobStmt (extents_of_all tensors) s → AllByRecursion IsStored (stored_of_all tensors)
-    → IsPartOf (stored_of_all tensors) (names_of tensors) s (record { sched = stmt_schedule s vars (names_of tensors); adds = s.adds; segment = 0 })
+pub first_part : (dims : List ℕ) (tensors : Contents) (s : Stmt) (vars : List (List ℕ)) → MeansStmt s (stmt_schedule s vars (names_of tensors)) → IsJobStmt (extents_of_all tensors) s → AllByRecursion IsStored (stored_of_all tensors)
+    → IsPartOf dims (stored_of_all tensors) (names_of tensors) s (record { sched = stmt_schedule s vars (names_of tensors); adds = s.adds; segment = 0 })
 unfolding stmt_schedule
-first_part tensors s vars means h levels = record {
+first_part dims tensors s vars means h levels = record {
   means = means;
   adds = refl;
   tensors = refl;
   fits = stmt_fits (stored_of_all tensors) s vars (names_of tensors) (subst (λ (l : List (List ℕ)). IsStmt l s) (sym (stored_extents (extents_of_all tensors))) h.stands)
       (length-map (extents_of_all tensors) dense_levels ∙ length-map tensors (λ t. t.1.extents) ∙ sym (length-map tensors (λ t. t.0))) levels;
+  grid = inl refl;
   output = output_chain 0 s.extents _;
+  dense = dense_at (extents_of_all tensors) s.lhs.tensor (slice_get_within (extents_of_all tensors) s.lhs.tensor _ h.stands.target.fits);
   unread = ap (λ (l : List Access). has_access s.lhs.tensor l) (reads_chain 0 s.extents _) ∙ terms_have s.lhs.tensor s ∙ h.unread;
   works = refl;
 }

@@ -3,7 +3,7 @@ use Rattle.std.specs.Prelude.{◌≡◌, ℕ, ◌≤◌, List, [], ◌∷◌, �
 use Rattle.std.specs.List.{AllByRecursion, IsDistinct}
 use Rattle.std.specs.Str.{bytes_eq}
 use Rattle.dt_model.specs.Positions.{IsStored}
-use Rattle.dt_place.specs.Machines.{MachineView}
+use Rattle.dt_place.specs.Machines.{MachineView, dims_of}
 use Rattle.dt_place.specs.declared.placements.Placement.{Placement}
 use Rattle.dt_job.specs.declared.outputs.Show.{Show}
 use Rattle.dt_job.specs.declared.parts.Part.{Part}
@@ -36,10 +36,14 @@ stated d = unwrap_or (option_map (λ s. d.closed ++ s ∷ []) (open_stmt d.phase
 abbrev pub part_of : Scheduled → Part
 part_of s = record { sched = s.sched; adds = s.stmt.adds; segment = 0 }
 
--- a statement over these tensors, with a schedule that means it
-pub record IsScheduled (tensors : Contents) (s : Scheduled) : Type 0 where
+-- the machine's dimensions, and none until the machine is known
+abbrev pub grid_of : Option MachineView → List ℕ
+grid_of machine = unwrap_or (option_map dims_of machine) []
+
+-- a statement over these tensors, with a schedule that means it on a machine with these dimensions
+pub record IsScheduled (dims : List ℕ) (tensors : Contents) (s : Scheduled) : Type 0 where
   pub stmt : IsJobStmt (extents_of_all tensors) s.stmt
-  pub part : IsPartOf (stored_of_all tensors) (names_of tensors) s.stmt (part_of s)
+  pub part : IsPartOf dims (stored_of_all tensors) (names_of tensors) s.stmt (part_of s)
 
 -- a placement fits the machine, which is known
 abbrev pub FitsMachine : Option MachineView → Placement → Type 0
@@ -58,6 +62,6 @@ pub record IsDraft (d : DraftView) : Type 0 where
   pub differ : IsDistinct bytes_eq (names_of d.tensors)
   pub stored : AllByRecursion IsStored (stored_of_all d.tensors)
   pub few_stmts : length (stated d) ≤ 32
-  pub stmts : All (IsScheduled d.tensors) (stated d)
+  pub stmts : All (IsScheduled (grid_of d.machine) d.tensors) (stated d)
   pub begun : is_past_declarations d.phase ≡ false → stated d ≡ []
   pub shows : All (ShowsBelow (length d.tensors)) d.shows

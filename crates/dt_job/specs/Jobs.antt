@@ -1,5 +1,5 @@
 -- A whole job.
-use Rattle.std.specs.Prelude.{◌≡◌, ℕ, ◌<◌, ◌≤◌, List, length, map, All, IsSome, false}
+use Rattle.std.specs.Prelude.{◌≡◌, ℕ, ◌<◌, ◌≤◌, List, length, map, All, IsSome, IsSortedBy, false, nat_lt}
 use Rattle.std.specs.List.{IsDistinct}
 use Rattle.std.specs.Str.{bytes_eq}
 use Rattle.dt_base.specs.Rows.{product}
@@ -9,7 +9,7 @@ use Rattle.dt_model.specs.declared.stmt.Stmt.{Stmt}
 use Rattle.dt_index.specs.Reads.{right_side_reads}
 use Rattle.dt_index.specs.Resolve.{IsSmall}
 use Rattle.dt_tensor.specs.Packed.{Packed, dense_tensor, stored_of}
-use Rattle.dt_place.specs.Machines.{MachineView}
+use Rattle.dt_place.specs.Machines.{MachineView, dims_of}
 use Rattle.dt_place.specs.Placements.{IsPlacement}
 use Rattle.dt_place.specs.declared.placements.Placement.{Placement}
 use Rattle.dt_job.specs.declared.job.Job.{Job}
@@ -46,7 +46,7 @@ abbrev pub FitsOn : MachineView → Placement → Type 0
 FitsOn m p = IsPlacement p m
 
 -- At most 32 tensors, whose names differ, each with a placement that fits the machine, and at most 32 statements over
--- them, each with its text and its part; every output is one of them.
+-- them, each with its text and its part, whose segments never fall; every output is one of them.
 pub record IsJob (j : Job) : Type 0 where
   pub named : length j.names ≡ length j.tensors
   pub differ : IsDistinct bytes_eq j.names
@@ -57,5 +57,6 @@ pub record IsJob (j : Job) : Type 0 where
   pub few_stmts : length j.stmts ≤ 32
   pub stmts : All (IsJobStmt (shapes_of_job j)) j.stmts
   pub headed : length j.heads ≡ length j.stmts
-  pub parts : ArePartsOf (map stored_of j.tensors) j.names j.stmts j.parts
+  pub parts : ArePartsOf (dims_of j.machine) (map stored_of j.tensors) j.names j.stmts j.parts
+  pub segments : IsSortedBy nat_lt (map (λ p. p.segment) j.parts)
   pub shows : All (ShowsBelow (length j.tensors)) j.shows

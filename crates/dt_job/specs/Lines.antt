@@ -5,7 +5,7 @@ use Rattle.std.specs.Str.{bytes_eq}
 use Rattle.dt_base.specs.Rows.{product}
 use Rattle.dt_text.specs.Lines.{plain_line}
 use Rattle.dt_text.specs.Names.{is_name}
-use Rattle.dt_text.specs.Numbers.{is_numeral}
+use Rattle.dt_text.specs.Numbers.{all_numbers_of, is_numeral}
 use Rattle.dt_text.specs.Tokens.{after_word, tokens_of}
 use Rattle.dt_text.specs.Words.{line_words}
 use Rattle.dt_text.specs.declared.text_end.TextEnd.{TextEnd}
@@ -34,7 +34,6 @@ use Rattle.dt_job.specs.declared.fills.Fill.{Fill}
 use Rattle.dt_job.specs.declared.fills.Fill.TheVariants.{Ramp, Seed}
 use Rattle.dt_job.specs.Phases.{open_stmt, takes_declaration, takes_distal, takes_machine, takes_output, takes_stmt}
 use Rattle.dt_job.specs.Shapes.{are_numerals, extent_words, is_dense_letter, level_words, numeral_of}
-use Rattle.dt_place.specs.Pieces.{numbers_of}
 
 -- `distal 1`
 unfoldable pub distal_line : DraftView → List (List ℕ) → Result DraftView Cause
@@ -69,12 +68,12 @@ unfoldable pub tensor_line : DraftView → List (List ℕ) → Result DraftView 
 tensor_line d (name ∷ shape ∷ []) = do
   _ ← need (takes_declaration d.phase) cause.OutOfPlace
   _ ← need (is_name name && list_all is_numeral (extent_words shape)) cause.Syntax
-  extents ← numbers_of (extent_words shape)
+  extents ← found (all_numbers_of (extent_words shape)) cause.BadNumber
   declared_in d name extents (length extents)
 tensor_line d (name ∷ shape ∷ format ∷ []) = do
   _ ← need (takes_declaration d.phase) cause.OutOfPlace
   _ ← need (is_name name && list_all is_numeral (extent_words shape) && list_all is_dense_letter (level_words format)) cause.Syntax
-  extents ← numbers_of (extent_words shape)
+  extents ← found (all_numbers_of (extent_words shape)) cause.BadNumber
   declared_in d name extents (length (level_words format))
 tensor_line d _ = do
   _ ← need (takes_declaration d.phase) cause.OutOfPlace
@@ -119,7 +118,7 @@ data_line d [] = do
 data_line d (name ∷ values) = do
   _ ← need (takes_declaration d.phase) cause.OutOfPlace
   _ ← need (is_name name && are_numerals values) cause.Syntax
-  ns ← numbers_of values
+  ns ← found (all_numbers_of values) cause.BadNumber
   numbers_line d name ns
 
 -- `ramp` or `seed N`

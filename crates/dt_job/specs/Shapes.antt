@@ -3,10 +3,10 @@ use Rattle.std.specs.Prelude.{ℕ, List, [], length, codes, Bool, ◌&&◌, nat_
 use Rattle.std.specs.List.{list_all}
 use Rattle.std.specs.Str.{bytes_eq}
 use Rattle.dt_text.specs.Numbers.{is_numeral, number_of}
+use Rattle.dt_text.specs.Parts.{parts_at}
 use Rattle.dt_model.specs.declared.cause.Cause.{Cause}
 use Rattle.dt_model.specs.declared.cause.Cause.TheVariants as cause
 use Rattle.dt_model.specs.Steps.{◌>>=◌, need, found}
-use Rattle.dt_place.specs.Pieces.{pieces_of}
 
 -- one or more words in the places of numbers
 abbrev pub are_numerals : List (List ℕ) → Bool
@@ -24,11 +24,11 @@ is_scalar word = bytes_eq word (codes "scalar")
 
 -- the words of a shape: none where it is `scalar`, and else those that `x` joins
 abbrev pub extent_words : List ℕ → List (List ℕ)
-extent_words shape = if is_scalar shape then [] else pieces_of 120 shape
+extent_words shape = if is_scalar shape then [] else parts_at 120 shape
 
 -- the level letters of a format, which commas join
 abbrev pub level_words : List ℕ → List (List ℕ)
-level_words format = pieces_of 44 format
+level_words format = parts_at 44 format
 
 -- `d`, a dense level
 abbrev pub is_dense_letter : List ℕ → Bool

@@ -58,7 +58,7 @@ impl Draft {
     ghost use Rattle.dt_index.specs.Known.{known_extents, place_of};
     ghost use Rattle.dt_place.specs.Machines.{dims_of};
     ghost use Rattle.dt_job.specs.Contents.{is_given, is_placed, known_of, names_of, order_of, position_count_of, stored_of_all, with_placement, with_values};
-    ghost use Rattle.dt_job.specs.Drafts.{DraftView, FitsMachine, IsDraft, IsScheduled, empty_draft};
+    ghost use Rattle.dt_job.specs.Drafts.{DraftView, FitsMachine, IsDraft, IsScheduled, empty_draft, grid_of};
     ghost use Rattle.dt_job.specs.Jobs.{IsJob, ShowsBelow};
     ghost use Rattle.dt_job.specs.Phases.{is_whole, knows_machine, open_stmt, takes_declaration, takes_distal, takes_machine, takes_output};
     ghost use Rattle.dt_job.specs.Read.{job_on};
@@ -241,7 +241,7 @@ impl Draft {
         ensures open { result ≡ open_stmt self.old.phase }
         ensures taken { OnSome result (self.new ≡ record self.old { phase = phases.Statements }) }
         ensures few { OnSome result (length self.old.closed < 32) }
-        ensures lawful { IfSome result (λ s. IsScheduled self.old.tensors s) }
+        ensures lawful { IfSome result (λ s. IsScheduled (grid_of self.old.machine) self.old.tensors s) }
         ensures none { IfNone result (self.new ≡ self.old) }
     {
         match mem::replace(&mut self.phase, Phase::Statements) {
@@ -257,7 +257,7 @@ impl Draft {
     pub fn open(&mut self, scheduled: Scheduled)
         requires machine { knows_machine self.old.phase ≡ true }
         requires few { length self.old.closed < 32 }
-        requires lawful { IsScheduled self.old.tensors scheduled }
+        requires lawful { IsScheduled (grid_of self.old.machine) self.old.tensors scheduled }
         ensures { self.new ≡ record self.old { phase = phases.Open scheduled } }
     {
         self.phase.enter(Phase::Open(scheduled));
@@ -267,7 +267,7 @@ impl Draft {
     pub fn close(&mut self, scheduled: Scheduled) -> Result<(), NoMemory>
         requires machine { knows_machine self.old.phase ≡ true }
         requires few { length self.old.closed < 32 }
-        requires lawful { IsScheduled self.old.tensors scheduled }
+        requires lawful { IsScheduled (grid_of self.old.machine) self.old.tensors scheduled }
         ensures ok { OnOk result (self.new ≡ record self.old { closed = self.old.closed ++ scheduled ∷ []; phase = phases.Statements }) }
     {
         self.phase.enter(Phase::Statements);

@@ -12,7 +12,7 @@ ghost use Rattle.dt_job.specs.Lines.{bytes_line, data_line, declared_in, distal_
 
 use crate::draft::Draft;
 use crate::fills::Fill;
-use crate::numerals::{are_numerals, read_numeral};
+use crate::numerals::{are_numerals, read_numbers, read_numeral};
 use crate::outputs::Show;
 use crate::scheduled::Scheduled;
 use crate::shapes::{are_dense_letters, extent_words, level_words, shape_of};
@@ -20,9 +20,9 @@ use dt_base::Name;
 use dt_index::parse_stmt;
 use dt_model::{Cause, LineEnd};
 use dt_nest::RewriteEnd;
-use dt_place::{are_all_numerals, parse_machine, read_numbers, read_place, resolve_place};
+use dt_place::{parse_machine, read_place, resolve_place};
 use dt_schedule::run_command;
-use dt_text::{Line, TextEnd, Token, after_word, is_name, tokens, word};
+use dt_text::{Line, TextEnd, Token, after_word, are_all_numerals, is_name, tokens, word};
 use std::alloc::Global;
 
 /// `distal 1`

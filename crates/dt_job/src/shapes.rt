@@ -8,8 +8,7 @@ ghost use Rattle.dt_job.specs.Shapes.{extent_words, is_dense_letter, is_scalar, 
 
 use dt_base::NoMemory;
 use dt_model::Shape;
-use dt_place::pieces;
-use dt_text::{Token, Tokens, word};
+use dt_text::{Token, Tokens, parts_at, word};
 use std::alloc::Global;
 
 /// The words of a shape: none where it is `scalar`, and else those that `x` joins.
@@ -21,7 +20,7 @@ pub fn extent_words(alloc: Global, shape: &[u8]) -> Result<Tokens, NoMemory>
     if is_scalar(shape) {
         return Ok(Tokens::new(alloc));
     }
-    pieces(alloc, shape, b'x')
+    parts_at(alloc, shape, b'x')
 }
 
 fn is_scalar(shape: &[u8]) -> bool
@@ -36,7 +35,7 @@ pub fn level_words(alloc: Global, format: &[u8]) -> Result<Tokens, NoMemory>
     ensures words { IfOk result (λ ts. map (token_in format.now) ts ≡ level_words format.now) }
     ensures tokens { IfOk result (λ ts. All (IsToken (length format.now)) ts) }
 {
-    pieces(alloc, format, b',')
+    parts_at(alloc, format, b',')
 }
 
 /// Whether each word is the letter of a dense level.

@@ -1,21 +1,9 @@
 -- What the tests of statements find.
-use Rattle.std.proofs.Common.{◌≡◌, ℕ, zero, suc, ◌<◌, ◌≢◌, List, [], ◌∷◌, ◌++◌, length, get_or, map, refl, ap, sym, ◌∙◌, arith, slice_index, inl, inr, ◌+◌, take, add-one, false, true, ◌↔◌, IsTrue}
-use Rattle.std.proofs.Math.Seq.{get_or-append_seam}
-use Rattle.std.proofs.lemmas.Bool.{cases_lt, false≢true}
-use Rattle.std.proofs.lemmas.List.{get_or_append_left, take_more, take_all}
+use Rattle.std.proofs.Common.{◌≡◌, ℕ, ◌<◌, ◌≢◌, List, length, get_or, map, refl, ap, sym, ◌∙◌, arith, slice_index, ◌+◌, take, add-one, false, true, ◌↔◌, IsTrue}
+use Rattle.std.proofs.lemmas.Bool.{false≢true}
+use Rattle.std.proofs.lemmas.List.{take_more, take_all}
 use Rattle.dt_base.specs.Ranges.{below}
-use Rattle.dt_model.proofs.StmtFacts.{length-below}
-
--- each of the numbers below n stands at its own place
-get_or-below : (n i : ℕ) → i < n → get_or (below n) i 0 ≡ i
-get_or-below zero i h = absurd (omega arith)
-get_or-below (suc n) i h = elim (cases_lt i n) [ inl lt ↦ inside n i lt (get_or-below n i lt) | inr le ↦ last n i (omega arith) ]
-  where
-    inside : (n i : ℕ) → i < n → get_or (below n) i 0 ≡ i → get_or (below n ++ n ∷ []) i 0 ≡ i
-    inside n i lt e = (let room : i < length (below n) = omega (arith, length-below n) in get_or_append_left (below n) (n ∷ []) 0 i room ∙ e)
-
-    last : (n i : ℕ) → i ≡ n → get_or (below n ++ n ∷ []) i 0 ≡ i
-    last n i e = ap (λ (k : ℕ). get_or (below n ++ n ∷ []) k 0) (e ∙ sym (length-below n)) ∙ get_or-append_seam (below n) n [] 0 ∙ sym e
+use Rattle.dt_base.proofs.Ranges.{get_or-below}
 
 -- a test that fails answers false
 fails : {P : Type 0} → (P → ⊥) → IsTrue false ↔ P
@@ -27,7 +15,7 @@ holds p = (λ _. p, λ _. refl)
 
 -- variables of which one is not at its own place
 pub not_counted : (vars : List ℕ) (i : ℕ) → i < length vars → get_or vars i 0 ≢ i → IsTrue false ↔ (vars ≡ below (length vars))
-not_counted vars i h other = fails (λ e. other (ap (λ (v : List ℕ). get_or v i 0) e ∙ get_or-below (length vars) i h))
+not_counted vars i h other = fails (λ e. other (ap (λ (v : List ℕ). get_or v i 0) e ∙ get_or-below (length vars) i 0 h))
 
 -- one more variable at its own place
 pub counted_more : (vars : List ℕ) (i : ℕ) → i < length vars → get_or vars i 0 ≡ i → take i vars ≡ below i → take (i + 1) vars ≡ below (i + 1)

@@ -1,5 +1,4 @@
 pub mod Accesses
-pub mod Firsts
 pub mod Fronts
 pub mod LawfulFacts
 pub mod Lexicographic

@@ -9,7 +9,7 @@ use Rattle.std.proofs.lemmas.Slice.Eq.{bytes_eq-Decides}
 use Rattle.dt_base.specs.Ranges.{assignments}
 use Rattle.dt_model.specs.Positions.{StoredTensor, IsStored, is_followed, coords_at}
 use Rattle.dt_model.specs.PositionLaws.{is_before, HasOrderedPositions}
-use Rattle.dt_model.proofs.Firsts.{bytes_eq-same, bytes_eq-apart, position-is}
+use Rattle.dt_base.proofs.Firsts.{bytes_eq-same, bytes_eq-apart, position-is}
 use Rattle.dt_model.proofs.Lexicographic.{is_before-itself, is_before-turned, assignments_ascend}
 
 -- stored coordinates ascend

@@ -1,19 +1,16 @@
 -- What a lawful statement is known to be.
-use Rattle.std.proofs.Common.{◌≡◌, ℕ, zero, suc, ◌<◌, ◌≤◌, List, [], ◌∷◌, ◌++◌, length, get_or, map, refl, ap, sym, ◌∙◌, arith, Option, Some, None, unwrap_or, slice_get, slice_index, All, IsSome, subst, ◌≢◌, length-append, inl, inr}
+use Rattle.std.proofs.Common.{◌≡◌, ℕ, zero, suc, ◌<◌, ◌≤◌, List, [], ◌∷◌, ◌++◌, length, get_or, map, ap, sym, ◌∙◌, arith, Option, Some, None, unwrap_or, slice_get, slice_index, All, IsSome, subst, ◌≢◌, length-append, inl, inr}
 use Rattle.std.proofs.Math.Seq.{get_or-append_seam}
 use Rattle.std.proofs.lemmas.Bool.{cases_eq}
 use Rattle.std.proofs.lemmas.List.{length-map}
 use Rattle.dt_base.specs.Ranges.{below}
 use Rattle.dt_base.specs.Rows.{row_major}
+use Rattle.dt_base.proofs.Ranges.{length-below}
 use Rattle.dt_base.proofs.Rows.{row_major-count}
 use Rattle.dt_model.specs.Stmts.{IsStmt, IsIndex, IsFactor, HasFactorVariables}
 use Rattle.dt_model.specs.declared.stmt.Factor.{Factor}
 use Rattle.dt_model.specs.declared.stmt.Factor.TheVariants.{Read, Literal}
 use Rattle.dt_model.specs.declared.stmt.Stmt.{Stmt}
-
-pub length-below : (n : ℕ) → length (below n) ≡ n
-length-below zero = refl
-length-below (suc n) = rw length-append (omega (arith, length-below n))
 
 -- where the numbers below n are below m, n is at most m
 all_below : (n m : ℕ) → All (λ v. v < m) (below n) → n ≤ m

@@ -1,3 +1,4 @@
+pub mod CauseText
 pub mod PositionLaws
 pub mod Positions
 pub mod Ring

@@ -3,13 +3,13 @@
 #![tactic(auto)]
 
 mod cause;
+mod cause_text;
 mod lawful;
 mod laws;
 mod locator;
 mod shape;
+mod steps;
 mod stmt;
-#[cfg(test)]
-mod tests;
 mod value;
 mod whole;
 
@@ -18,6 +18,7 @@ pub use lawful::{is_index, is_stmt};
 pub use laws::{positions_follow_coordinates, value_is_a_ring_sum};
 pub use locator::Locator;
 pub use shape::Shape;
+pub use steps::{found, need};
 pub use stmt::{Access, Factor, Factors, Stmt, Stmts, Term, Terms};
 pub use value::value_at;
 pub use whole::Whole;

@@ -19,15 +19,16 @@ use Rattle.dt_nest.specs.declared.loops.Kernel.{Kernel}
 use Rattle.dt_nest.specs.declared.loops.Kernel.TheVariants.{Plain, Dot, Dot3}
 use Rattle.dt_nest.specs.declared.derivations.Derived.{Derived}
 use Rattle.dt_nest.specs.Tree.{Tree, Loop, Pre, Leaf, is_kernel_leaf}
-use Rattle.dt_nest.specs.Sums.{sum_below, sum_below_same, sum_below_zero}
+use Rattle.dt_nest.specs.Sums.{sum_below}
+use Rattle.dt_nest.proofs.SumLaws.{sum_below_same, sum_below_zero}
 use Rattle.dt_nest.specs.Meaning.{World, Env, Entries, bind, val_of, with_work, terms_of, guards_hold, leaf_of, takes, renamed, under, nest_sum}
 use Rattle.dt_nest.specs.Lawful.{Loops, also, Follows, AllFollow, IsSubstituted, HaveKernels, nodes_with}
-use Rattle.dt_nest.specs.Visits.{Item, IsVisit, value_in, tests_of, with_reset, lane_visit, is_valid, valid_values, substituted_visits, tree_visits}
+use Rattle.dt_nest.specs.Visits.{Scope, entered, in_producer, Item, IsVisit, value_in, tests_of, with_reset, lane_visit, is_valid, valid_values, substituted_visits, tree_visits}
 use Rattle.dt_nest.specs.Odometer.{HaveSlots}
 use Rattle.dt_nest.specs.Effects.{with_more, effect_of, entries_after}
 use Rattle.dt_nest.specs.Outputs.{output_of, WritesWorks}
 use Rattle.dt_nest.proofs.Names.{renamed-append}
-use Rattle.dt_nest.specs.Agree.{known_agree}
+use Rattle.dt_nest.proofs.Agree.{known_agree}
 use Rattle.dt_nest.proofs.Moves.{range-add}
 use Rattle.dt_nest.proofs.Congruence.{Like, like_same, like_trans, like_add, reads_free, Alike, nest_sum-like}
 
@@ -126,46 +127,46 @@ module _ (w : World) (ds : List Derived) where
         there u c true p = absurd (cc)
         there u c false p = refl
 
-    leaf_adds : (pairs : List Pair) (slots : List ℕ) (x : Entries) → Adds (Leaf lhs terms guards kernel) (nest_sum w ds (Leaf lhs terms guards kernel) x (renamed pairs) (slice_index slots)) x (entries_after w ds (tree_visits (tests_of w ds) (Leaf lhs terms guards kernel) pairs slots []) x)
+    leaf_adds : (scope : Scope) (slots : List ℕ) (x : Entries) → Adds (Leaf lhs terms guards kernel) (nest_sum w ds (Leaf lhs terms guards kernel) x (renamed scope.pairs) (slice_index slots)) x (entries_after w ds (tree_visits (tests_of w ds) (Leaf lhs terms guards kernel) scope slots []) x)
     unfolding nest_sum
-    leaf_adds pairs slots x = go (guards_hold w (value_in w ds pairs slots) guards)
+    leaf_adds scope slots x = go (guards_hold w (value_in w ds scope.pairs slots) guards)
       where
-        one : sum_by (λ val. terms_of x val terms) (value_in w ds pairs slots ∷ []) ≡ terms_of x (value_in w ds pairs slots) terms
-        one = omega (arith, sum_by-cons (λ val. terms_of x val terms) (value_in w ds pairs slots) [])
+        one : sum_by (λ val. terms_of x val terms) (value_in w ds scope.pairs slots ∷ []) ≡ terms_of x (value_in w ds scope.pairs slots) terms
+        one = omega (arith, sum_by-cons (λ val. terms_of x val terms) (value_in w ds scope.pairs slots) [])
 
-        go : (b : Bool) → Adds (Leaf lhs terms guards kernel) (λ c. if b && bytes_eq (map (value_in w ds pairs slots) lhs.vars) c then terms_of x (value_in w ds pairs slots) terms else 0) x
-            (entries_after w ds (if b then IsVisit (record { leaf = record { lhs = lhs; terms = terms; guards = guards; kernel = kernel }; pairs = pairs; slots = slots; lanes = None }) ∷ [] else []) x)
+        go : (b : Bool) → Adds (Leaf lhs terms guards kernel) (λ c. if b && bytes_eq (map (value_in w ds scope.pairs slots) lhs.vars) c then terms_of x (value_in w ds scope.pairs slots) terms else 0) x
+            (entries_after w ds (if b then IsVisit (record { leaf = record { lhs = lhs; terms = terms; guards = guards; kernel = kernel }; around = scope.around; pairs = scope.pairs; slots = slots; lanes = None }) ∷ [] else []) x)
         go true =
-            adds_same (Leaf lhs terms guards kernel) (λ c. if bytes_eq (map (value_in w ds pairs slots) lhs.vars) c then sum_by (λ val. terms_of x val terms) (value_in w ds pairs slots ∷ []) else 0) (λ c. if bytes_eq (map (value_in w ds pairs slots) lhs.vars) c then terms_of x (value_in w ds pairs slots) terms else 0) x
-            (with_more x lhs.tensor (map (value_in w ds pairs slots) lhs.vars) (sum_by (λ val. terms_of x val terms) (value_in w ds pairs slots ∷ [])))
-            (λ c. ap (λ (d : ℕ). if bytes_eq (map (value_in w ds pairs slots) lhs.vars) c then d else 0) one)
-            (more_adds x (map (value_in w ds pairs slots) lhs.vars) (sum_by (λ val. terms_of x val terms) (value_in w ds pairs slots ∷ [])))
+            adds_same (Leaf lhs terms guards kernel) (λ c. if bytes_eq (map (value_in w ds scope.pairs slots) lhs.vars) c then sum_by (λ val. terms_of x val terms) (value_in w ds scope.pairs slots ∷ []) else 0) (λ c. if bytes_eq (map (value_in w ds scope.pairs slots) lhs.vars) c then terms_of x (value_in w ds scope.pairs slots) terms else 0) x
+            (with_more x lhs.tensor (map (value_in w ds scope.pairs slots) lhs.vars) (sum_by (λ val. terms_of x val terms) (value_in w ds scope.pairs slots ∷ [])))
+            (λ c. ap (λ (d : ℕ). if bytes_eq (map (value_in w ds scope.pairs slots) lhs.vars) c then d else 0) one)
+            (more_adds x (map (value_in w ds scope.pairs slots) lhs.vars) (sum_by (λ val. terms_of x val terms) (value_in w ds scope.pairs slots ∷ [])))
         go false = adds_none (Leaf lhs terms guards kernel) x (λ c. 0) (λ c. refl)
 
-    module _ (walk : Option Walk) (v n : ℕ) (pairs : List Pair) (slots : List ℕ) (x : Entries) where
-      lanes_sum : (valid : List ℕ) → sum_by (λ val. terms_of x val terms) (map (value_in w ds pairs) (map (λ y. slice_set slots v y) valid)) ≡ sum_by (λ i. terms_of x (value_in w ds pairs (slice_set slots v i)) terms) valid
+    module _ (walk : Option Walk) (v n : ℕ) (scope : Scope) (slots : List ℕ) (x : Entries) where
+      lanes_sum : (valid : List ℕ) → sum_by (λ val. terms_of x val terms) (map (value_in w ds scope.pairs) (map (λ y. slice_set slots v y) valid)) ≡ sum_by (λ i. terms_of x (value_in w ds scope.pairs (slice_set slots v i)) terms) valid
       lanes_sum valid =
-          sum_by-map (λ val. terms_of x val terms) (value_in w ds pairs) (map (λ y. slice_set slots v y) valid)
-          ∙ sum_by-map (λ (l : List ℕ). terms_of x (value_in w ds pairs l) terms) (λ y. slice_set slots v y) valid
+          sum_by-map (λ val. terms_of x val terms) (value_in w ds scope.pairs) (map (λ y. slice_set slots v y) valid)
+          ∙ sum_by-map (λ (l : List ℕ). terms_of x (value_in w ds scope.pairs l) terms) (λ y. slice_set slots v y) valid
 
-      lane_adds : (valid : List ℕ) → Adds (Leaf lhs terms guards kernel) (λ c. if bytes_eq (map (value_in w ds pairs slots) lhs.vars) c then sum_by (λ i. terms_of x (value_in w ds pairs (slice_set slots v i)) terms) valid else 0) x
-          (entries_after w ds (lane_visit (record { lhs = lhs; terms = terms; guards = guards; kernel = kernel }) pairs slots v n valid) x)
-      lane_adds [] = adds_none (Leaf lhs terms guards kernel) x (λ c. if bytes_eq (map (value_in w ds pairs slots) lhs.vars) c then 0 else 0) (λ c. none_if (bytes_eq (map (value_in w ds pairs slots) lhs.vars) c))
+      lane_adds : (valid : List ℕ) → Adds (Leaf lhs terms guards kernel) (λ c. if bytes_eq (map (value_in w ds scope.pairs slots) lhs.vars) c then sum_by (λ i. terms_of x (value_in w ds scope.pairs (slice_set slots v i)) terms) valid else 0) x
+          (entries_after w ds (lane_visit (record { lhs = lhs; terms = terms; guards = guards; kernel = kernel }) scope slots v n valid) x)
+      lane_adds [] = adds_none (Leaf lhs terms guards kernel) x (λ c. if bytes_eq (map (value_in w ds scope.pairs slots) lhs.vars) c then 0 else 0) (λ c. none_if (bytes_eq (map (value_in w ds scope.pairs slots) lhs.vars) c))
       lane_adds (y ∷ valid) =
-          adds_same (Leaf lhs terms guards kernel) (λ c. if bytes_eq (map (value_in w ds pairs slots) lhs.vars) c then sum_by (λ val. terms_of x val terms) (map (value_in w ds pairs) (map (λ z. slice_set slots v z) (y ∷ valid))) else 0)
-          (λ c. if bytes_eq (map (value_in w ds pairs slots) lhs.vars) c then sum_by (λ i. terms_of x (value_in w ds pairs (slice_set slots v i)) terms) (y ∷ valid) else 0) x
-          (with_more x lhs.tensor (map (value_in w ds pairs slots) lhs.vars) (sum_by (λ val. terms_of x val terms) (map (value_in w ds pairs) (map (λ z. slice_set slots v z) (y ∷ valid)))))
-          (λ c. ap (λ (d : ℕ). if bytes_eq (map (value_in w ds pairs slots) lhs.vars) c then d else 0) (lanes_sum (y ∷ valid)))
-          (more_adds x (map (value_in w ds pairs slots) lhs.vars) (sum_by (λ val. terms_of x val terms) (map (value_in w ds pairs) (map (λ z. slice_set slots v z) (y ∷ valid)))))
+          adds_same (Leaf lhs terms guards kernel) (λ c. if bytes_eq (map (value_in w ds scope.pairs slots) lhs.vars) c then sum_by (λ val. terms_of x val terms) (map (value_in w ds scope.pairs) (map (λ z. slice_set slots v z) (y ∷ valid))) else 0)
+          (λ c. if bytes_eq (map (value_in w ds scope.pairs slots) lhs.vars) c then sum_by (λ i. terms_of x (value_in w ds scope.pairs (slice_set slots v i)) terms) (y ∷ valid) else 0) x
+          (with_more x lhs.tensor (map (value_in w ds scope.pairs slots) lhs.vars) (sum_by (λ val. terms_of x val terms) (map (value_in w ds scope.pairs) (map (λ z. slice_set slots v z) (y ∷ valid)))))
+          (λ c. ap (λ (d : ℕ). if bytes_eq (map (value_in w ds scope.pairs slots) lhs.vars) c then d else 0) (lanes_sum (y ∷ valid)))
+          (more_adds x (map (value_in w ds scope.pairs slots) lhs.vars) (sum_by (λ val. terms_of x val terms) (map (value_in w ds scope.pairs) (map (λ z. slice_set slots v z) (y ∷ valid)))))
 
       -- the sum of a substituted loop, whose left side has one index for all its values
-      kernel_sum : (around : Loops) → v < length slots → around v ≡ false → AllByRecursion (λ u. Follows ds around (renamed pairs) (renamed pairs u)) lhs.vars → (c : List ℕ)
-          → (if bytes_eq (map (value_in w ds pairs slots) lhs.vars) c then sum_by (λ i. terms_of x (value_in w ds pairs (slice_set slots v i)) terms) (valid_values (tests_of w ds) walk v n guards pairs slots) else 0)
-          ≡ sum_below n (λ i. if takes w walk v (renamed pairs) (val_of w ds (renamed pairs) (bind (slice_index slots) v i)) then leaf_of w x (val_of w ds (renamed pairs) (bind (slice_index slots) v i)) lhs terms guards c else 0)
+      kernel_sum : (around : Loops) → v < length slots → around v ≡ false → AllByRecursion (λ u. Follows ds around (renamed scope.pairs) (renamed scope.pairs u)) lhs.vars → (c : List ℕ)
+          → (if bytes_eq (map (value_in w ds scope.pairs slots) lhs.vars) c then sum_by (λ i. terms_of x (value_in w ds scope.pairs (slice_set slots v i)) terms) (valid_values (tests_of w ds) walk v n guards scope.pairs slots) else 0)
+          ≡ sum_below n (λ i. if takes w walk v (renamed scope.pairs) (val_of w ds (renamed scope.pairs) (bind (slice_index slots) v i)) then leaf_of w x (val_of w ds (renamed scope.pairs) (bind (slice_index slots) v i)) lhs terms guards c else 0)
       kernel_sum around l a f c =
-          whole (bytes_eq (map (value_in w ds pairs slots) lhs.vars) c)
-          ∙ sum_below_same n _ _ (λ i k. ap (λ (e : Env). if takes w walk v (renamed pairs) (val_of w ds (renamed pairs) e) then (if guards_hold w (val_of w ds (renamed pairs) e) guards && bytes_eq (map (value_in w ds pairs slots) lhs.vars) c then terms_of x (val_of w ds (renamed pairs) e) terms else 0) else 0) (set_env slots v i l)
-          ∙ ap (λ (left : List ℕ). if takes w walk v (renamed pairs) (val_of w ds (renamed pairs) (bind (slice_index slots) v i)) then (if guards_hold w (val_of w ds (renamed pairs) (bind (slice_index slots) v i)) guards && bytes_eq left c then terms_of x (val_of w ds (renamed pairs) (bind (slice_index slots) v i)) terms else 0) else 0) (same i))
+          whole (bytes_eq (map (value_in w ds scope.pairs slots) lhs.vars) c)
+          ∙ sum_below_same n _ _ (λ i k. ap (λ (e : Env). if takes w walk v (renamed scope.pairs) (val_of w ds (renamed scope.pairs) e) then (if guards_hold w (val_of w ds (renamed scope.pairs) e) guards && bytes_eq (map (value_in w ds scope.pairs slots) lhs.vars) c then terms_of x (val_of w ds (renamed scope.pairs) e) terms else 0) else 0) (set_env slots v i l)
+          ∙ ap (λ (left : List ℕ). if takes w walk v (renamed scope.pairs) (val_of w ds (renamed scope.pairs) (bind (slice_index slots) v i)) then (if guards_hold w (val_of w ds (renamed scope.pairs) (bind (slice_index slots) v i)) guards && bytes_eq left c then terms_of x (val_of w ds (renamed scope.pairs) (bind (slice_index slots) v i)) terms else 0) else 0) (same i))
         where
           apart : (i u : ℕ) → around u ≡ true → slice_index slots u ≡ bind (slice_index slots) v i u
           apart i u t = go (nat_eq u v) (eqb-true u v)
@@ -174,9 +175,9 @@ module _ (w : World) (ds : List Derived) where
               go true e = let f : around u ≡ false = ap around (e refl) ∙ a in absurd (cc)
               go false e = refl
 
-          same : (i : ℕ) → map (value_in w ds pairs slots) lhs.vars ≡ map (val_of w ds (renamed pairs) (bind (slice_index slots) v i)) lhs.vars
-          same i = map_agree (λ u. Follows ds around (renamed pairs) (renamed pairs u)) (value_in w ds pairs slots) (val_of w ds (renamed pairs) (bind (slice_index slots) v i))
-              (λ u k. known_agree w ds around (renamed pairs) (slice_index slots) (bind (slice_index slots) v i) (apart i) (renamed pairs u) k) lhs.vars f
+          same : (i : ℕ) → map (value_in w ds scope.pairs slots) lhs.vars ≡ map (val_of w ds (renamed scope.pairs) (bind (slice_index slots) v i)) lhs.vars
+          same i = map_agree (λ u. Follows ds around (renamed scope.pairs) (renamed scope.pairs u)) (value_in w ds scope.pairs slots) (val_of w ds (renamed scope.pairs) (bind (slice_index slots) v i))
+              (λ u k. known_agree w ds around (renamed scope.pairs) (slice_index slots) (bind (slice_index slots) v i) (apart i) (renamed scope.pairs u) k) lhs.vars f
 
           cases : (t g : Bool) (b : Bool) (d : ℕ) → b ≡ true → (if t && g then d else 0) ≡ (if t then (if g && b then d else 0) else 0)
           cases true true true d e = refl
@@ -190,55 +191,55 @@ module _ (w : World) (ds : List Derived) where
           none true false b d e = refl
           none false g b d e = refl
 
-          whole : (b : Bool) → (if b then sum_by (λ i. terms_of x (value_in w ds pairs (slice_set slots v i)) terms) (valid_values (tests_of w ds) walk v n guards pairs slots) else 0)
-              ≡ sum_below n (λ i. if takes w walk v (renamed pairs) (value_in w ds pairs (slice_set slots v i)) then (if guards_hold w (value_in w ds pairs (slice_set slots v i)) guards && b then terms_of x (value_in w ds pairs (slice_set slots v i)) terms else 0) else 0)
+          whole : (b : Bool) → (if b then sum_by (λ i. terms_of x (value_in w ds scope.pairs (slice_set slots v i)) terms) (valid_values (tests_of w ds) walk v n guards scope.pairs slots) else 0)
+              ≡ sum_below n (λ i. if takes w walk v (renamed scope.pairs) (value_in w ds scope.pairs (slice_set slots v i)) then (if guards_hold w (value_in w ds scope.pairs (slice_set slots v i)) guards && b then terms_of x (value_in w ds scope.pairs (slice_set slots v i)) terms else 0) else 0)
           whole true =
-              sym (sum_below-filter (is_valid (tests_of w ds) walk v guards pairs slots) (λ i. terms_of x (value_in w ds pairs (slice_set slots v i)) terms) n)
-              ∙ sum_below_same n _ _ (λ i k. cases (takes w walk v (renamed pairs) (value_in w ds pairs (slice_set slots v i))) (guards_hold w (value_in w ds pairs (slice_set slots v i)) guards) true (terms_of x (value_in w ds pairs (slice_set slots v i)) terms) refl)
-          whole false = sym (sum_below_zero n _ (λ i k. none (takes w walk v (renamed pairs) (value_in w ds pairs (slice_set slots v i))) (guards_hold w (value_in w ds pairs (slice_set slots v i)) guards) false (terms_of x (value_in w ds pairs (slice_set slots v i)) terms) refl))
+              sym (sum_below-filter (is_valid (tests_of w ds) walk v guards scope.pairs slots) (λ i. terms_of x (value_in w ds scope.pairs (slice_set slots v i)) terms) n)
+              ∙ sum_below_same n _ _ (λ i k. cases (takes w walk v (renamed scope.pairs) (value_in w ds scope.pairs (slice_set slots v i))) (guards_hold w (value_in w ds scope.pairs (slice_set slots v i)) guards) true (terms_of x (value_in w ds scope.pairs (slice_set slots v i)) terms) refl)
+          whole false = sym (sum_below_zero n _ (λ i k. none (takes w walk v (renamed scope.pairs) (value_in w ds scope.pairs (slice_set slots v i))) (guards_hold w (value_in w ds scope.pairs (slice_set slots v i)) guards) false (terms_of x (value_in w ds scope.pairs (slice_set slots v i)) terms) refl))
 
   -- the same growth of a tree with a loop around it
   around_loop : (v n : ℕ) (walk : Option Walk) (body : Tree) (f : List ℕ → ℕ) (x y : Entries) → Adds body f x y → Adds (Loop v n walk body) f x y
   around_loop v n walk body f x y a = record { sums = a.sums; others = a.others }
 
-  kernel_adds : (walk : Option Walk) (v n : ℕ) (body : Tree) (around : Loops) (pairs : List Pair) (slots : List ℕ) (x : Entries) → is_kernel_leaf body ≡ true → v < length slots → around v ≡ false → IsSubstituted ds body around (renamed pairs)
-      → Adds body (nest_sum w ds (Loop v n walk body) x (renamed pairs) (slice_index slots)) x (entries_after w ds (substituted_visits (tests_of w ds) walk v n body pairs slots) x)
+  kernel_adds : (walk : Option Walk) (v n : ℕ) (body : Tree) (around : Loops) (scope : Scope) (slots : List ℕ) (x : Entries) → is_kernel_leaf body ≡ true → v < length slots → around v ≡ false → IsSubstituted ds body around (renamed scope.pairs)
+      → Adds body (nest_sum w ds (Loop v n walk body) x (renamed scope.pairs) (slice_index slots)) x (entries_after w ds (substituted_visits (tests_of w ds) walk v n body scope slots) x)
   unfolding nest_sum
-  kernel_adds walk v n (Loop u m more inner) around pairs slots x k l a i = absurd (cc)
-  kernel_adds walk v n (Pre work more p q) around pairs slots x k l a i = absurd (cc)
-  kernel_adds walk v n (Leaf lhs terms guards Plain) around pairs slots x k l a i = absurd (cc)
-  kernel_adds walk v n (Leaf lhs terms guards Dot) around pairs slots x k l a i =
-      adds_same (Leaf lhs terms guards Dot) _ _ x _ (λ c. kernel_sum lhs terms guards Dot walk v n pairs slots x around l a i.1 c) (lane_adds lhs terms guards Dot walk v n pairs slots x (valid_values (tests_of w ds) walk v n guards pairs slots))
-  kernel_adds walk v n (Leaf lhs terms guards Dot3) around pairs slots x k l a i =
-      adds_same (Leaf lhs terms guards Dot3) _ _ x _ (λ c. kernel_sum lhs terms guards Dot3 walk v n pairs slots x around l a i.1 c) (lane_adds lhs terms guards Dot3 walk v n pairs slots x (valid_values (tests_of w ds) walk v n guards pairs slots))
+  kernel_adds walk v n (Loop u m more inner) around scope slots x k l a i = absurd (cc)
+  kernel_adds walk v n (Pre work more p q) around scope slots x k l a i = absurd (cc)
+  kernel_adds walk v n (Leaf lhs terms guards Plain) around scope slots x k l a i = absurd (cc)
+  kernel_adds walk v n (Leaf lhs terms guards Dot) around scope slots x k l a i =
+      adds_same (Leaf lhs terms guards Dot) _ _ x _ (λ c. kernel_sum lhs terms guards Dot walk v n scope slots x around l a i.1 c) (lane_adds lhs terms guards Dot walk v n scope slots x (valid_values (tests_of w ds) walk v n guards scope.pairs slots))
+  kernel_adds walk v n (Leaf lhs terms guards Dot3) around scope slots x k l a i =
+      adds_same (Leaf lhs terms guards Dot3) _ _ x _ (λ c. kernel_sum lhs terms guards Dot3 walk v n scope slots x around l a i.1 c) (lane_adds lhs terms guards Dot3 walk v n scope slots x (valid_values (tests_of w ds) walk v n guards scope.pairs slots))
 
   -- Loops --------------------------------------------------------------------------------------------------------------
 
-  module _ (walk : Option Walk) (v n : ℕ) (body : Tree) (pairs : List Pair) (slots : List ℕ) (room : v < length slots) (apart : IsApart body) where
+  module _ (walk : Option Walk) (v n : ℕ) (body : Tree) (scope : Scope) (slots : List ℕ) (room : v < length slots) (apart : IsApart body) where
     -- the items of one value
     abbrev Step : ℕ → List Item
-    Step i = if takes w walk v (renamed pairs) (value_in w ds pairs (slice_set slots v i)) then tree_visits (tests_of w ds) body pairs (slice_set slots v i) [] else []
+    Step i = if takes w walk v (renamed scope.pairs) (value_in w ds scope.pairs (slice_set slots v i)) then tree_visits (tests_of w ds) body (entered scope v) (slice_set slots v i) [] else []
 
     -- what one value adds
     abbrev Part : Entries → List ℕ → ℕ → ℕ
-    Part x c i = if takes w walk v (renamed pairs) (val_of w ds (renamed pairs) (bind (slice_index slots) v i)) then nest_sum w ds body x (renamed pairs) (bind (slice_index slots) v i) c else 0
+    Part x c i = if takes w walk v (renamed scope.pairs) (val_of w ds (renamed scope.pairs) (bind (slice_index slots) v i)) then nest_sum w ds body x (renamed scope.pairs) (bind (slice_index slots) v i) c else 0
 
     step_adds : (i : ℕ) (x y : Entries) → ((u : ℕ) → Untouched body u → (c : List ℕ) → y u c ≡ x u c)
-        → Adds body (nest_sum w ds body y (renamed pairs) (slice_index (slice_set slots v i))) y (entries_after w ds (tree_visits (tests_of w ds) body pairs (slice_set slots v i) []) y)
+        → Adds body (nest_sum w ds body y (renamed scope.pairs) (slice_index (slice_set slots v i))) y (entries_after w ds (tree_visits (tests_of w ds) body (entered scope v) (slice_set slots v i) []) y)
         → Adds body (λ c. Part y c i) y (entries_after w ds (Step i) y)
     step_adds i x y same a =
-        subst (λ (e : Env). Adds body (λ c. if takes w walk v (renamed pairs) (val_of w ds (renamed pairs) e) then nest_sum w ds body y (renamed pairs) e c else 0) y (entries_after w ds (Step i) y)) (set_env slots v i room)
-        (go (takes w walk v (renamed pairs) (value_in w ds pairs (slice_set slots v i))))
+        subst (λ (e : Env). Adds body (λ c. if takes w walk v (renamed scope.pairs) (val_of w ds (renamed scope.pairs) e) then nest_sum w ds body y (renamed scope.pairs) e c else 0) y (entries_after w ds (Step i) y)) (set_env slots v i room)
+        (go (takes w walk v (renamed scope.pairs) (value_in w ds scope.pairs (slice_set slots v i))))
       where
-        go : (b : Bool) → Adds body (λ c. if b then nest_sum w ds body y (renamed pairs) (slice_index (slice_set slots v i)) c else 0) y (entries_after w ds (if b then tree_visits (tests_of w ds) body pairs (slice_set slots v i) [] else []) y)
+        go : (b : Bool) → Adds body (λ c. if b then nest_sum w ds body y (renamed scope.pairs) (slice_index (slice_set slots v i)) c else 0) y (entries_after w ds (if b then tree_visits (tests_of w ds) body (entered scope v) (slice_set slots v i) [] else []) y)
         go true = a
         go false = adds_none body y (λ c. 0) (λ c. refl)
 
     part_like : (i : ℕ) (x y : Entries) → ((u : ℕ) → Untouched body u → (c : List ℕ) → y u c ≡ x u c) → (c : List ℕ) → Like (Part y c i) (Part x c i)
-    part_like i x y same c = go (takes w walk v (renamed pairs) (val_of w ds (renamed pairs) (bind (slice_index slots) v i)))
+    part_like i x y same c = go (takes w walk v (renamed scope.pairs) (val_of w ds (renamed scope.pairs) (bind (slice_index slots) v i)))
       where
-        go : (b : Bool) → Like (if b then nest_sum w ds body y (renamed pairs) (bind (slice_index slots) v i) c else 0) (if b then nest_sum w ds body x (renamed pairs) (bind (slice_index slots) v i) c else 0)
-        go true = nest_sum-like w ds body y x (renamed pairs) (bind (slice_index slots) v i) (record { alike = λ u e d. like_same (y u d) (x u d) (same u (apart.free u e) d) }) c
+        go : (b : Bool) → Like (if b then nest_sum w ds body y (renamed scope.pairs) (bind (slice_index slots) v i) c else 0) (if b then nest_sum w ds body x (renamed scope.pairs) (bind (slice_index slots) v i) c else 0)
+        go true = nest_sum-like w ds body y x (renamed scope.pairs) (bind (slice_index slots) v i) (record { alike = λ u e d. like_same (y u d) (x u d) (same u (apart.free u e) d) }) c
         go false = like_same 0 0 refl
 
     range_last : (k : ℕ) → range_with_len 0 (suc k) ≡ range_with_len 0 k ++ k ∷ []
@@ -248,7 +249,7 @@ module _ (w : World) (ds : List Derived) where
 
     -- one more value
     loop_more : (k : ℕ) (x : Entries)
-        → ((i : ℕ) (y : Entries) → Adds body (nest_sum w ds body y (renamed pairs) (slice_index (slice_set slots v i))) y (entries_after w ds (tree_visits (tests_of w ds) body pairs (slice_set slots v i) []) y))
+        → ((i : ℕ) (y : Entries) → Adds body (nest_sum w ds body y (renamed scope.pairs) (slice_index (slice_set slots v i))) y (entries_after w ds (tree_visits (tests_of w ds) body (entered scope v) (slice_set slots v i) []) y))
         → Adds body (λ c. sum_below k (Part x c)) x (entries_after w ds (flat_map Step (range_with_len 0 k)) x)
         → Adds body (λ c. sum_below (suc k) (Part x c)) x (entries_after w ds (flat_map Step (range_with_len 0 (suc k))) x)
     unfolding sum_below
@@ -276,7 +277,7 @@ module _ (w : World) (ds : List Derived) where
             ∙ after-append (Step k) [] before
 
     loop_adds : (k : ℕ) (x : Entries)
-        → ((i : ℕ) (y : Entries) → Adds body (nest_sum w ds body y (renamed pairs) (slice_index (slice_set slots v i))) y (entries_after w ds (tree_visits (tests_of w ds) body pairs (slice_set slots v i) []) y))
+        → ((i : ℕ) (y : Entries) → Adds body (nest_sum w ds body y (renamed scope.pairs) (slice_index (slice_set slots v i))) y (entries_after w ds (tree_visits (tests_of w ds) body (entered scope v) (slice_set slots v i) []) y))
         → Adds body (λ c. sum_below k (Part x c)) x (entries_after w ds (flat_map Step (range_with_len 0 k)) x)
     unfolding sum_below
     loop_adds zero x ih = adds_none body x (λ c. 0) (λ c. refl)
@@ -470,27 +471,27 @@ module _ (w : World) (ds : List Derived) where
   loop_apart v n walk body a = record { writes = a.writes; once = a.once; free = a.free; output = a.output }
 
   -- the visits of a tree add its sum to its output
-  pub tree_adds : (tree : Tree) (around : Loops) (pairs : List Pair) (slots : List ℕ) (x : Entries) → IsApart tree → HaveSlots tree (length slots) → AllFollow ds tree around (renamed pairs) → HaveKernels ds tree around (renamed pairs)
-      → Adds tree (nest_sum w ds tree x (renamed pairs) (slice_index slots)) x (entries_after w ds (tree_visits (tests_of w ds) tree pairs slots []) x)
+  pub tree_adds : (tree : Tree) (around : Loops) (scope : Scope) (slots : List ℕ) (x : Entries) → IsApart tree → HaveSlots tree (length slots) → AllFollow ds tree around (renamed scope.pairs) → HaveKernels ds tree around (renamed scope.pairs)
+      → Adds tree (nest_sum w ds tree x (renamed scope.pairs) (slice_index slots)) x (entries_after w ds (tree_visits (tests_of w ds) tree scope slots []) x)
   unfolding nest_sum
-  tree_adds (Loop v n walk body) around pairs slots x apart room a k =
-      around_loop v n walk body (nest_sum w ds (Loop v n walk body) x (renamed pairs) (slice_index slots)) x (entries_after w ds (tree_visits (tests_of w ds) (Loop v n walk body) pairs slots []) x)
-      (go (is_kernel_leaf body) (λ e. kernel_adds walk v n body around pairs slots x e room.0 a.0 k.0)
-      (loop_adds walk v n body pairs slots room.0 (loop_apart v n walk body apart) n x
-      (λ i y. tree_adds body (also around v) pairs (slice_set slots v i) y (loop_apart v n walk body apart) (subst (HaveSlots body) (sym (length-set slots v i)) room.2) a.3 k.1)))
+  tree_adds (Loop v n walk body) around scope slots x apart room a k =
+      around_loop v n walk body (nest_sum w ds (Loop v n walk body) x (renamed scope.pairs) (slice_index slots)) x (entries_after w ds (tree_visits (tests_of w ds) (Loop v n walk body) scope slots []) x)
+      (go (is_kernel_leaf body) (λ e. kernel_adds walk v n body around scope slots x e room.0 a.0 k.0)
+      (loop_adds walk v n body scope slots room.0 (loop_apart v n walk body apart) n x
+      (λ i y. tree_adds body (also around v) (entered scope v) (slice_set slots v i) y (loop_apart v n walk body apart) (subst (HaveSlots body) (sym (length-set slots v i)) room.2) a.3 k.1)))
     where
-      go : (b : Bool) → (b ≡ true → Adds body (nest_sum w ds (Loop v n walk body) x (renamed pairs) (slice_index slots)) x (entries_after w ds (substituted_visits (tests_of w ds) walk v n body pairs slots) x))
-          → Adds body (nest_sum w ds (Loop v n walk body) x (renamed pairs) (slice_index slots)) x
-          (entries_after w ds (flat_map (λ i. if takes w walk v (renamed pairs) (value_in w ds pairs (slice_set slots v i)) then tree_visits (tests_of w ds) body pairs (slice_set slots v i) [] else []) (range_with_len 0 n)) x)
-          → Adds body (nest_sum w ds (Loop v n walk body) x (renamed pairs) (slice_index slots)) x
-          (entries_after w ds (if b then substituted_visits (tests_of w ds) walk v n body pairs slots
-          else flat_map (λ i. if takes w walk v (renamed pairs) (value_in w ds pairs (slice_set slots v i)) then tree_visits (tests_of w ds) body pairs (slice_set slots v i) [] else []) (range_with_len 0 n)) x)
+      go : (b : Bool) → (b ≡ true → Adds body (nest_sum w ds (Loop v n walk body) x (renamed scope.pairs) (slice_index slots)) x (entries_after w ds (substituted_visits (tests_of w ds) walk v n body scope slots) x))
+          → Adds body (nest_sum w ds (Loop v n walk body) x (renamed scope.pairs) (slice_index slots)) x
+          (entries_after w ds (flat_map (λ i. if takes w walk v (renamed scope.pairs) (value_in w ds scope.pairs (slice_set slots v i)) then tree_visits (tests_of w ds) body (entered scope v) (slice_set slots v i) [] else []) (range_with_len 0 n)) x)
+          → Adds body (nest_sum w ds (Loop v n walk body) x (renamed scope.pairs) (slice_index slots)) x
+          (entries_after w ds (if b then substituted_visits (tests_of w ds) walk v n body scope slots
+          else flat_map (λ i. if takes w walk v (renamed scope.pairs) (value_in w ds scope.pairs (slice_set slots v i)) then tree_visits (tests_of w ds) body (entered scope v) (slice_set slots v i) [] else []) (range_with_len 0 n)) x)
       go true f l = f refl
       go false f l = l
-  tree_adds (Pre work more p q) around pairs slots x apart room a k =
-      let e : renamed (pairs ++ more) ≡ under more (renamed pairs) = fun_ext (renamed-append pairs more) in
-      pre_adds work more p q apart (renamed pairs) (slice_index slots) (tree_visits (tests_of w ds) p (pairs ++ more) slots []) (tree_visits (tests_of w ds) q pairs slots []) x
-      (λ y. subst (λ (name : Env). Adds p (nest_sum w ds p y name (slice_index slots)) y (entries_after w ds (tree_visits (tests_of w ds) p (pairs ++ more) slots []) y)) e
-      (tree_adds p around (pairs ++ more) slots y (first_apart work more p q apart) room.0 (subst (AllFollow ds p around) (sym e) a.1) (subst (HaveKernels ds p around) (sym e) k.2)))
-      (λ y. tree_adds q around pairs slots y (second_apart work more p q apart) room.1 a.2 k.3)
-  tree_adds (Leaf lhs terms guards kernel) around pairs slots x apart room a k = leaf_adds lhs terms guards kernel pairs slots x
+  tree_adds (Pre work more p q) around scope slots x apart room a k =
+      let e : renamed (scope.pairs ++ more) ≡ under more (renamed scope.pairs) = fun_ext (renamed-append scope.pairs more) in
+      pre_adds work more p q apart (renamed scope.pairs) (slice_index slots) (tree_visits (tests_of w ds) p (in_producer scope more) slots []) (tree_visits (tests_of w ds) q scope slots []) x
+      (λ y. subst (λ (name : Env). Adds p (nest_sum w ds p y name (slice_index slots)) y (entries_after w ds (tree_visits (tests_of w ds) p (in_producer scope more) slots []) y)) e
+      (tree_adds p around (in_producer scope more) slots y (first_apart work more p q apart) room.0 (subst (AllFollow ds p around) (sym e) a.1) (subst (HaveKernels ds p around) (sym e) k.2)))
+      (λ y. tree_adds q around scope slots y (second_apart work more p q apart) room.1 a.2 k.3)
+  tree_adds (Leaf lhs terms guards kernel) around scope slots x apart room a k = leaf_adds lhs terms guards kernel scope slots x

@@ -5,9 +5,9 @@ use Rattle.std.specs.List.{AllByRecursion}
 use Rattle.std.proofs.lemmas.Bool.{eqb-true}
 use Rattle.dt_nest.specs.declared.loops.Pair.{Pair}
 use Rattle.dt_nest.specs.declared.derivations.Derived.{Derived}
-use Rattle.dt_nest.specs.Each.{all_map}
-use Rattle.dt_nest.specs.Agree.{derive_agree}
-use Rattle.dt_nest.specs.Leads.{follows_whole}
+use Rattle.dt_nest.proofs.Each.{all_map}
+use Rattle.dt_nest.proofs.Agree.{derive_agree}
+use Rattle.dt_nest.proofs.Leads.{follows_whole}
 use Rattle.dt_nest.specs.Meaning.{World, Env, derive_of, known, renamed, under}
 use Rattle.dt_nest.specs.Lawful.{sources, is_replaced, IsPast, AreOrdered, Loops, Follows}
 

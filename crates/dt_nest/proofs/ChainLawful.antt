@@ -9,7 +9,7 @@ use Rattle.dt_model.specs.declared.stmt.Term.{Term}
 use Rattle.dt_model.specs.declared.stmt.Stmt.{Stmt}
 use Rattle.dt_nest.specs.declared.loops.Kernel.TheVariants.{Plain}
 use Rattle.dt_nest.specs.declared.parts.Work.{Work}
-use Rattle.dt_nest.specs.Each.{all_map}
+use Rattle.dt_nest.proofs.Each.{all_map}
 use Rattle.dt_nest.specs.Tree.{Leaf, loop_count, leaf_count, times, is_kernel_leaf, read_accesses, accesses_of}
 use Rattle.dt_nest.specs.Outputs.{WritesWorks}
 use Rattle.dt_nest.specs.Schedule.{Schedule}

@@ -21,10 +21,11 @@ use Rattle.dt_model.specs.declared.stmt.Term.{Term}
 use Rattle.dt_model.specs.declared.stmt.Stmt.{Stmt}
 use Rattle.dt_nest.specs.declared.loops.Kernel.TheVariants.{Plain}
 use Rattle.dt_nest.specs.Tree.{Tree, Leaf, read_accesses, accesses_of}
-use Rattle.dt_nest.specs.Sums.{sum_below, sum_below_same, sum_below_zero}
+use Rattle.dt_nest.specs.Sums.{sum_below}
+use Rattle.dt_nest.proofs.SumLaws.{sum_below_same, sum_below_zero}
 use Rattle.dt_nest.specs.Meaning.{World, Env, Entries, bind, known, factor_of, term_of, terms_of, leaf_of, nest_sum}
 use Rattle.dt_nest.specs.World.{world_of, entries_of, FitsAccess}
-use Rattle.dt_nest.specs.Inside.{length_shapes}
+use Rattle.dt_nest.proofs.Inside.{length_shapes}
 use Rattle.dt_nest.specs.Chain.{chain, stmt_schedule, IsSchedulable, MeansStmt}
 
 -- a sum over a range, in both forms

@@ -11,7 +11,7 @@ use Rattle.dt_nest.specs.declared.progress.Progress.{Progress}
 use Rattle.dt_nest.specs.declared.progress.Progress.TheVariants.{Before, Resetting, On, Done}
 use Rattle.dt_nest.specs.Tree.{Tree}
 use Rattle.dt_nest.specs.Schedule.{Schedule}
-use Rattle.dt_nest.specs.Visits.{Item, IsReset, Tests}
+use Rattle.dt_nest.specs.Visits.{at_root, Item, IsReset, Tests}
 use Rattle.dt_nest.specs.Odometer.{HaveSlots, works_at, item_at, after, Reaches, Finds, Steps}
 use Rattle.dt_nest.specs.Run.{run_tests, left_of, Stands, ItemHolds, LastHolds, last_of, CanGoOn, IsSound, Moves, ArrivesAt}
 use Rattle.dt_nest.proofs.Holding.{item-visit}
@@ -31,21 +31,21 @@ drop_none xs k e = go (nat_lt k (length xs)) (ltb-true k (length xs)) (ltb-false
     go false l m = drop_all k xs (m refl)
 
 -- the item that a run comes to after a leaf was reached
-pub arrives : (t : Tests) (tree : Tree) (path : List ℕ) (list : List Item) (slots : List ℕ) (leaf past : ℕ) (q : Progress) → Reaches t tree [] path list slots leaf past → ArrivesAt (slice_get (works_at tree leaf) past) leaf past q
+pub arrives : (t : Tests) (tree : Tree) (path : List ℕ) (list : List Item) (slots : List ℕ) (leaf past : ℕ) (q : Progress) → Reaches t tree at_root path list slots leaf past → ArrivesAt (slice_get (works_at tree leaf) past) leaf past q
     → Moves t tree path list slots q × Stands tree slots q
 arrives t tree path list slots leaf past Before r a = absurd a
 arrives t tree path list slots leaf past Done r a = absurd a
 arrives t tree path list slots leaf past (On l) r a =
     subst (λ (k : ℕ). Moves t tree path list slots (On k) × Stands tree slots (On k)) (sym a.0) (
       r.items
-          ∙ ap (λ (ws : List ℕ). map IsReset ws ++ item_at t tree [] slots leaf ∷ after t tree [] slots path leaf) (drop_none (works_at tree leaf) past a.1)
-          ∙ ap (λ (i : Item). i ∷ after t tree [] slots path leaf) (item-visit t tree [] slots leaf),
+          ∙ ap (λ (ws : List ℕ). map IsReset ws ++ item_at t tree at_root slots leaf ∷ after t tree at_root slots path leaf) (drop_none (works_at tree leaf) past a.1)
+          ∙ ap (λ (i : Item). i ∷ after t tree at_root slots path leaf) (item-visit t tree at_root slots leaf),
       (r.stands, r.exists),
     )
 arrives t tree path list slots leaf past (Resetting l m work) r a =
     subst (λ (k : ℕ). Moves t tree path list slots (Resetting k m work) × Stands tree slots (Resetting k m work)) (sym a.0)
     (subst (λ (k : ℕ). Moves t tree path list slots (Resetting leaf k work) × Stands tree slots (Resetting leaf k work)) (sym a.1) (
-      r.items ∙ ap (λ (ws : List ℕ). map IsReset ws ++ item_at t tree [] slots leaf ∷ after t tree [] slots path leaf) (drop_some (works_at tree leaf) past work a.2),
+      r.items ∙ ap (λ (ws : List ℕ). map IsReset ws ++ item_at t tree at_root slots leaf ∷ after t tree at_root slots path leaf) (drop_some (works_at tree leaf) past work a.2),
       (r.stands, r.exists, let l = slice_get_within (works_at tree leaf) past work a.2 in omega (arith, l)),
     ))
 
@@ -73,7 +73,7 @@ sound_after stored s path slots new p q i e m = record {
 
 -- a run that has come behind a reset
 pub still_there : (stored : List StoredTensor) (s : Schedule) (path slots : List ℕ) (leaf past work : ℕ) → CanGoOn stored s path slots (Resetting leaf past work)
-    → Reaches (run_tests stored s) s.nest [] path (left_of (run_tests stored s) s.nest path slots (Resetting leaf past work)) slots leaf past
+    → Reaches (run_tests stored s) s.nest at_root path (left_of (run_tests stored s) s.nest path slots (Resetting leaf past work)) slots leaf past
 still_there stored s path slots leaf past work i = record { items = refl; stands = i.stands.0; exists = i.stands.1; resets = i.stands.2 }
 
 -- each loop has a slot of its own
@@ -86,14 +86,14 @@ module _ (stored : List StoredTensor) (s : Schedule) (path slots new : List ℕ)
       → Moves (run_tests stored s) s.nest path (left_of (run_tests stored s) s.nest path slots p) new q × Stands s.nest new q
   from_start leaf e f a =
       subst (λ (r : Progress). Moves (run_tests stored s) s.nest path (left_of (run_tests stored s) s.nest path slots r) new q × Stands s.nest new q) (sym e)
-      (arrives (run_tests stored s) s.nest path (left_of (run_tests stored s) s.nest path slots Before) new leaf 0 q f.goes.0 a)
+      (arrives (run_tests stored s) s.nest path (left_of (run_tests stored s) s.nest path slots Before) new leaf 0 q (f.goes.0 []) a)
 
   -- from a visit to the next one
   pub from_visit : (leaf : ℕ) (at : Stand) → p ≡ On leaf → Steps (run_tests stored s) s.nest [] path leaf slots new (Some at) → ArrivesAt (slice_get (works_at s.nest at.leaf) at.past) at.leaf at.past q
       → Moves (run_tests stored s) s.nest path (left_of (run_tests stored s) s.nest path slots p) new q × Stands s.nest new q
   from_visit leaf at e f a =
       subst (λ (r : Progress). Moves (run_tests stored s) s.nest path (left_of (run_tests stored s) s.nest path slots r) new q × Stands s.nest new q) (sym e)
-      (arrives (run_tests stored s) s.nest path (left_of (run_tests stored s) s.nest path slots (On leaf)) new at.leaf at.past q f.goes.0 a)
+      (arrives (run_tests stored s) s.nest path (left_of (run_tests stored s) s.nest path slots (On leaf)) new at.leaf at.past q (f.goes.0 []) a)
 
   -- from a reset on
   pub from_reset : (leaf past work : ℕ) → p ≡ Resetting leaf past work → ArrivesAt (slice_get (works_at s.nest leaf) past) leaf past q

@@ -15,16 +15,18 @@ use Rattle.dt_nest.specs.Tree.{Tree, Loop, Pre, Leaf, leaf_count, is_kernel_leaf
 use Rattle.dt_nest.specs.Schedule.{Schedule}
 use Rattle.dt_nest.specs.Meaning.{World, renamed, under, guards_hold}
 use Rattle.dt_nest.specs.World.{world_of, FitsDerive}
-use Rattle.dt_nest.specs.Lawful.{IsNamed, AreNamed, AreOrdered, Loops, also, Follows, AllFollow, AreGuarded, HaveGuards, IsSubstituted, HaveKernels}
-use Rattle.dt_nest.specs.Inside.{guard_holds, renamed_extents, variables_below}
+use Rattle.dt_nest.specs.Lawful.{is_replaced, AreLoops, IsNamed, AreNamed, AreOrdered, Loops, also, Follows, AllFollow, AreGuarded, HaveGuards, IsSubstituted, HaveKernels}
+use Rattle.dt_nest.proofs.Inside.{guard_holds, renamed_extents, variables_below}
 use Rattle.dt_nest.specs.Values.{inside_in, guard_inside, is_below, inside_tests}
 use Rattle.dt_nest.specs.Visits.{LeafNode, Lanes, Tests, value_in, is_valid, valid_values}
 use Rattle.dt_nest.specs.Odometer.{AreZero, IsAt, guards_of, pairs_at}
-use Rattle.dt_nest.specs.Each.{all_filter}
+use Rattle.dt_nest.proofs.Each.{all_filter}
 use Rattle.dt_nest.specs.Branch.{leaf_at, node_at, leaf_tree, loops_at, substituted_at, valid_at, lanes_at}
 use Rattle.dt_nest.specs.Run.{among, with_lane, is_among, AreAscending, GuardsHold}
 use Rattle.dt_nest.proofs.Names.{renamed-append}
-use Rattle.dt_nest.specs.Agree.{known_agree, follows_more}
+use Rattle.dt_nest.proofs.Agree.{known_agree, follows_more}
+use Rattle.dt_nest.proofs.Agreement.{follows_under}
+use Rattle.dt_nest.proofs.Leads.{whole_follows}
 use Rattle.dt_nest.proofs.Known.{Outside, inside_known, inside_none}
 use Rattle.dt_nest.proofs.Searches.{any_found}
 use Rattle.dt_nest.proofs.Pruned.{deeper, leaf_fails}
@@ -143,6 +145,11 @@ abbrev pub IsLaneOf : Schedule → Option Lanes → Type 0
 IsLaneOf s None = Unit {0}
 IsLaneOf s (Some lanes) = AllByRecursion (λ x. x < slice_index s.extents lanes.var) lanes.valid
 
+-- a substituted loop itself has a value, where it has one
+abbrev pub LaneFollows : List Derived → Loops → List Pair → Option Lanes → Type 0
+LaneFollows ds around pairs None = Unit {0}
+LaneFollows ds around pairs (Some lanes) = Follows ds (also around lanes.var) (renamed pairs) (renamed pairs lanes.var)
+
 -- What holds at a leaf, of the loops around it and its renamings.
 pub record LeafFacts (s : Schedule) (ds : List Derived) (slots : List ℕ) (around : Loops) (pairs : List Pair) (leaf : LeafNode) (lanes : Option Lanes) : Type 0 where
   pub inside : (u : ℕ) → around u ≡ true → slice_index slots u < slice_index s.extents u
@@ -152,6 +159,9 @@ pub record LeafFacts (s : Schedule) (ds : List Derived) (slots : List ℕ) (arou
   pub apart : IsApart lanes around
   pub left : AllByRecursion (λ u. Follows ds around (renamed pairs) (renamed pairs u)) leaf.lhs.vars
   pub reads : AllByRecursion (λ a. AllByRecursion (λ u. Follows ds (with_lane lanes around) (renamed pairs) (renamed pairs u)) a.vars) (read_accesses leaf.terms)
+  pub loops : (u : ℕ) → around u ≡ true → Follows ds around (renamed pairs) (renamed pairs u)
+  pub tested : AllByRecursion (λ u. Follows ds (with_lane lanes around) (renamed pairs) (renamed pairs u)) leaf.guards
+  pub swept : LaneFollows ds around pairs lanes
 
 append_none : (l : List Pair) → l ≡ l ++ []
 append_none [] = refl
@@ -161,21 +171,59 @@ range_below : (a n m : ℕ) → a + n ≤ m → AllByRecursion (λ x. x < m) (ra
 range_below a zero m l = tt
 range_below a (suc n) m l = (omega arith, range_below (a + 1) n m (omega arith))
 
-module _ (s : Schedule) (ds : List Derived) (t : Tests) where
-  kernel_facts : (v n : ℕ) (valid : List ℕ) (body : Tree) (outer : List ℕ) (pairs : List Pair) (slots : List ℕ) (leaf : ℕ) → is_kernel_leaf body ≡ true → among outer v ≡ false
+-- The loops around: none was replaced, and each has a value.
+pub record AreAround (ds : List Derived) (around : Loops) (pairs : List Pair) : Type 0 where
+  pub plain : (u : ℕ) → around u ≡ true → is_replaced ds u ≡ false
+  pub follow : (u : ℕ) → around u ≡ true → Follows ds around (renamed pairs) (renamed pairs u)
+
+module _ (s : Schedule) (ds : List Derived) (ordered : AreOrdered ds) (t : Tests) where
+  own_follows : (v : ℕ) (around : Loops) (pairs : List Pair) → renamed pairs v ≡ v → is_replaced ds v ≡ false → Follows ds (also around v) (renamed pairs) (renamed pairs v)
+  own_follows v around pairs e r = subst (Follows ds (also around v) (renamed pairs)) (sym e) (whole_follows ds (also around v) (renamed pairs) v r (ap (λ (b : Bool). b || around v) (eq-eqb v v refl)))
+
+  -- one more loop around
+  more_around : (v : ℕ) (around : Loops) (pairs : List Pair) → renamed pairs v ≡ v → is_replaced ds v ≡ false → AreAround ds around pairs → AreAround ds (also around v) pairs
+  more_around v around pairs e r h = record {
+    plain = λ u k. plain u (nat_eq u v) (eqb-true u v) k;
+    follow = λ u k. follow u (nat_eq u v) (eqb-true u v) k;
+  }
+    where
+      plain : (u : ℕ) (b : Bool) → (b ≡ true → u ≡ v) → (b || around u) ≡ true → is_replaced ds u ≡ false
+      plain u true i k = ap (is_replaced ds) (i refl) ∙ r
+      plain u false i k = h.plain u k
+
+      follow : (u : ℕ) (b : Bool) → (b ≡ true → u ≡ v) → (b || around u) ≡ true → Follows ds (also around v) (renamed pairs) (renamed pairs u)
+      follow u true i k = subst (λ (x : ℕ). Follows ds (also around v) (renamed pairs) (renamed pairs x)) (sym (i refl)) (own_follows v around pairs e r)
+      follow u false i k = follows_more ds around (also around v) (renamed pairs) (λ w m. or_true (nat_eq w v) (around w) m) (renamed pairs u) (h.follow u k)
+
+  -- the loops around a producer keep their names there
+  around_under : (around : Loops) (pairs more : List Pair) → ((u : ℕ) → Follows ds around (renamed pairs) u → renamed more u ≡ u) → AreAround ds around pairs → AreAround ds around (pairs ++ more)
+  around_under around pairs more n h = record { plain = h.plain; follow = follow }
+    where
+      any_world : World
+      any_world = record { coord = λ a b c. 0; stored = λ a c. true; extent = λ v. 0; tensors = 0 }
+
+      follow : (u : ℕ) → around u ≡ true → Follows ds around (renamed (pairs ++ more)) (renamed (pairs ++ more) u)
+      follow u k =
+          let f = h.follow u k in
+          let under_same : renamed (pairs ++ more) ≡ under more (renamed pairs) = fun_ext (renamed-append pairs more) in
+          let moved = (follows_under (any_world) more around (renamed pairs) (λ w. 0) ds ordered h.plain n (renamed pairs u) f).0 in
+          subst (λ (name : ℕ → ℕ). Follows ds around name (renamed (pairs ++ more) u)) (sym under_same)
+          (subst (Follows ds around (under more (renamed pairs))) (sym (n (renamed pairs u) f) ∙ sym (renamed-append pairs more u)) moved)
+
+  kernel_facts : (v n : ℕ) (valid : List ℕ) (body : Tree) (outer : List ℕ) (pairs : List Pair) (slots : List ℕ) (leaf : ℕ) → is_kernel_leaf body ≡ true → AreAround ds (among outer) pairs → renamed pairs v ≡ v → is_replaced ds v ≡ false → among outer v ≡ false
       → ((u : ℕ) → among outer u ≡ true → slice_index slots u < slice_index s.extents u) → AllByRecursion (λ x. x < slice_index s.extents v) valid
       → AllFollow ds body (also (among outer) v) (renamed pairs) → HaveGuards ds body (also (among outer) v) (renamed pairs) → IsSubstituted ds body (among outer) (renamed pairs)
       → ((u : ℕ) → slice_index s.extents (renamed pairs u) ≡ slice_index s.extents u)
       → LeafFacts s ds slots (among outer) (pairs ++ pairs_at body leaf) (node_at body leaf) (Some (record { var = v; extent = n; valid = valid }))
-  kernel_facts v n valid (Loop u m more inner) outer pairs slots leaf k f h b a g i keep = absurd (cc)
-  kernel_facts v n valid (Pre work more p q) outer pairs slots leaf k f h b a g i keep = absurd (cc)
-  kernel_facts v n valid (Leaf lhs terms guards Plain) outer pairs slots leaf k f h b a g i keep = absurd (cc)
-  kernel_facts v n valid (Leaf lhs terms guards Dot) outer pairs slots leaf k f h b a g i keep =
+  kernel_facts v n valid (Loop u m more inner) outer pairs slots leaf k o e r f h b a g i keep = absurd (cc)
+  kernel_facts v n valid (Pre work more p q) outer pairs slots leaf k o e r f h b a g i keep = absurd (cc)
+  kernel_facts v n valid (Leaf lhs terms guards Plain) outer pairs slots leaf k o e r f h b a g i keep = absurd (cc)
+  kernel_facts v n valid (Leaf lhs terms guards Dot) outer pairs slots leaf k o e r f h b a g i keep =
       subst (λ (l : List Pair). LeafFacts s ds slots (among outer) l (record { lhs = lhs; terms = terms; guards = guards; kernel = Dot }) (Some (record { var = v; extent = n; valid = valid }))) (append_none pairs)
-      (record { inside = h; lane = b; guards = g; keeps = keep; apart = f; left = i.1; reads = a.0.1 })
-  kernel_facts v n valid (Leaf lhs terms guards Dot3) outer pairs slots leaf k f h b a g i keep =
+      (record { inside = h; lane = b; guards = g; keeps = keep; apart = f; left = i.1; reads = a.0.1; loops = o.follow; tested = a.1; swept = own_follows v (among outer) pairs e r })
+  kernel_facts v n valid (Leaf lhs terms guards Dot3) outer pairs slots leaf k o e r f h b a g i keep =
       subst (λ (l : List Pair). LeafFacts s ds slots (among outer) l (record { lhs = lhs; terms = terms; guards = guards; kernel = Dot3 }) (Some (record { var = v; extent = n; valid = valid }))) (append_none pairs)
-      (record { inside = h; lane = b; guards = g; keeps = keep; apart = f; left = i.1; reads = a.0.1 })
+      (record { inside = h; lane = b; guards = g; keeps = keep; apart = f; left = i.1; reads = a.0.1; loops = o.follow; tested = a.1; swept = own_follows v (among outer) pairs e r })
 
   one_more : (v n : ℕ) (outer slots : List ℕ) → ((u : ℕ) → among outer u ≡ true → slice_index slots u < slice_index s.extents u) → slice_index s.extents v ≡ n → slice_index slots v < n
       → (u : ℕ) → among (v ∷ outer) u ≡ true → slice_index slots u < slice_index s.extents u
@@ -187,11 +235,11 @@ module _ (s : Schedule) (ds : List Derived) (t : Tests) where
 
   pub leaf_facts : (tree : Tree) (outer : List ℕ) (pairs : List Pair) (slots : List ℕ) (leaf : ℕ) → IsAt tree slots leaf → ((u : ℕ) → among outer u ≡ true → slice_index slots u < slice_index s.extents u)
       → IsNamed s tree → AllFollow ds tree (among outer) (renamed pairs) → HaveGuards ds tree (among outer) (renamed pairs) → HaveKernels ds tree (among outer) (renamed pairs)
-      → ((u : ℕ) → slice_index s.extents (renamed pairs u) ≡ slice_index s.extents u)
+      → ((u : ℕ) → slice_index s.extents (renamed pairs u) ≡ slice_index s.extents u) → AreLoops ds tree → AreAround ds (among outer) pairs
       → LeafFacts s ds slots (among (loops_at tree outer leaf)) (pairs ++ pairs_at tree leaf) (node_at tree leaf) (lanes_at t tree pairs slots leaf)
-  leaf_facts (Loop v n walk body) outer pairs slots leaf at h named a g k keep =
-      go (is_kernel_leaf body) at.0 (λ e. kernel_facts v n (valid_values t walk v n (guards_of body) pairs slots) body outer pairs slots leaf e a.0 h below_extent a.3 g k.0 keep)
-      (λ l. leaf_facts body (v ∷ outer) pairs slots leaf at.1 (one_more v n outer slots h named.1 l) named.3 a.3 g k.1 keep)
+  leaf_facts (Loop v n walk body) outer pairs slots leaf at h named a g k keep loops o =
+      go (is_kernel_leaf body) at.0 (λ e. kernel_facts v n (valid_values t walk v n (guards_of body) pairs slots) body outer pairs slots leaf e o a.1 loops.0 a.0 h below_extent a.3 g k.0 keep)
+      (λ l. leaf_facts body (v ∷ outer) pairs slots leaf at.1 (one_more v n outer slots h named.1 l) named.3 a.3 g k.1 keep loops.1 (more_around v (among outer) pairs a.1 loops.0 o))
     where
       below_extent : AllByRecursion (λ x. x < slice_index s.extents v) (valid_values t walk v n (guards_of body) pairs slots)
       below_extent =
@@ -205,13 +253,13 @@ module _ (s : Schedule) (ds : List Derived) (t : Tests) where
           (if b then Some (record { var = v; extent = n; valid = valid_values t walk v n (guards_of body) pairs slots }) else lanes_at t body pairs slots leaf)
       go true l f r = f refl
       go false l f r = r l
-  leaf_facts (Pre work more p q) outer pairs slots leaf at h named a g k keep =
+  leaf_facts (Pre work more p q) outer pairs slots leaf at h named a g k keep loops o =
       let e : renamed (pairs ++ more) ≡ under more (renamed pairs) = fun_ext (renamed-append pairs more) in
       go (nat_lt leaf (leaf_count p)) at
       (λ l. subst (λ (l : List Pair). LeafFacts s ds slots (among (loops_at p outer leaf)) l (node_at p leaf) (lanes_at t p (pairs ++ more) slots leaf)) (append_assoc pairs more (pairs_at p leaf))
       (leaf_facts p outer (pairs ++ more) slots leaf l h named.2 (subst (AllFollow ds p (among outer)) (sym e) a.1) (subst (HaveGuards ds p (among outer)) (sym e) g.0) (subst (HaveKernels ds p (among outer)) (sym e) k.2)
-      (λ u. ap (slice_index s.extents) (renamed-append pairs more u) ∙ renamed_extents s more named.1 (renamed pairs u) ∙ keep u)))
-      (λ l. leaf_facts q outer pairs slots (leaf - leaf_count p) l h named.3 a.2 g.1 k.3 keep)
+      (λ u. ap (slice_index s.extents) (renamed-append pairs more u) ∙ renamed_extents s more named.1 (renamed pairs u) ∙ keep u) loops.0 (around_under (among outer) pairs more a.0 o)))
+      (λ l. leaf_facts q outer pairs slots (leaf - leaf_count p) l h named.3 a.2 g.1 k.3 keep loops.1 o)
     where
       go : (b : Bool) → MatchBool b (IsAt p slots leaf × AreZero q slots) (AreZero p slots × IsAt q slots (leaf - leaf_count p))
           → (IsAt p slots leaf → LeafFacts s ds slots (among (loops_at p outer leaf)) (pairs ++ (more ++ pairs_at p leaf)) (node_at p leaf) (lanes_at t p (pairs ++ more) slots leaf))
@@ -220,9 +268,9 @@ module _ (s : Schedule) (ds : List Derived) (t : Tests) where
           (if b then node_at p leaf else node_at q (leaf - leaf_count p)) (if b then lanes_at t p (pairs ++ more) slots leaf else lanes_at t q pairs slots (leaf - leaf_count p))
       go true l a r = a l.0
       go false l a r = r l.1
-  leaf_facts (Leaf lhs terms guards kernel) outer pairs slots leaf at h named a g k keep =
+  leaf_facts (Leaf lhs terms guards kernel) outer pairs slots leaf at h named a g k keep loops o =
       subst (λ (l : List Pair). LeafFacts s ds slots (among outer) l (record { lhs = lhs; terms = terms; guards = guards; kernel = kernel }) None) (append_none pairs)
-      (record { inside = h; lane = tt; guards = g; keeps = keep; apart = tt; left = a.0.0; reads = a.0.1 })
+      (record { inside = h; lane = tt; guards = g; keeps = keep; apart = tt; left = a.0.0; reads = a.0.1; loops = o.follow; tested = a.1; swept = tt })
 
 -- Values at a visit --------------------------------------------------------------------------------------------------
 

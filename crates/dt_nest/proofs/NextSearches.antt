@@ -5,7 +5,7 @@ use Rattle.dt_nest.specs.declared.loops.Walk.{Walk}
 use Rattle.dt_nest.specs.declared.loops.Pair.{Pair}
 use Rattle.dt_nest.specs.declared.odometer.Stand.{Stand}
 use Rattle.dt_nest.specs.Tree.{Tree, Loop, Pre, Leaf, size_of, leaf_count, is_kernel_leaf}
-use Rattle.dt_nest.specs.Visits.{Tests, IsPathIn}
+use Rattle.dt_nest.specs.Visits.{scoped, Tests, IsPathIn}
 use Rattle.dt_nest.specs.Odometer.{HaveSlots, AreZero, works_at, IsAt, end_on, Finds, FindsFrom, Steps}
 use Rattle.dt_nest.proofs.Slots.{zero_kept}
 use Rattle.dt_nest.proofs.Moves.{first_stood, second_stood, steps_first, steps_over, steps_over_none, steps_second, steps_second_none}
@@ -86,14 +86,14 @@ module _ (t : Tests) (tree : Tree) (work : ℕ) (more found : List Pair) (p q fi
   first_is mid at f = subst (λ (l : List Pair). Steps t p (pairs ++ l) [] leaf0 old mid at) m (subst (λ (x : Tree). Steps t x (pairs ++ found) [] leaf0 old mid at) a f)
 
   pub producer_stand : leaf0 < leaf_count p → IsAt first old leaf0
-  producer_stand lt = subst (λ (x : Tree). IsAt x old leaf0) (sym a) (first_stood t work more p q pairs path leaf0 lt old node_stand).0
+  producer_stand lt = subst (λ (x : Tree). IsAt x old leaf0) (sym a) (first_stood t work more p q (scoped pairs []) path leaf0 lt old node_stand).0
 
   pub consumer_stand : (at0 : ℕ) → leaf_count p + at0 ≡ leaf0 → IsAt second old at0
-  consumer_stand at0 s = subst (λ (x : Tree). IsAt x old at0) (sym b) (second_stood t work more p q pairs path leaf0 at0 s old node_stand).1
+  consumer_stand at0 s = subst (λ (x : Tree). IsAt x old at0) (sym b) (second_stood t work more p q (scoped pairs []) path leaf0 at0 s old node_stand).1
 
   pub consumer_zero : (mid : List ℕ) → leaf0 < leaf_count p → Steps t first (pairs ++ found) [] leaf0 old mid None → AreZero second mid
   consumer_zero mid lt f =
-      subst (λ (x : Tree). AreZero x mid) (sym b) (subst (AreZero q) (sym (first_is mid None f).goes.1) (zero_kept q p old node_room.3 (first_stood t work more p q pairs path leaf0 lt old node_stand).1))
+      subst (λ (x : Tree). AreZero x mid) (sym b) (subst (AreZero q) (sym (first_is mid None f).goes.1) (zero_kept q p old node_room.3 (first_stood t work more p q (scoped pairs []) path leaf0 lt old node_stand).1))
 
   pub pre_first_next : (new : List ℕ) (at to : Stand) → leaf0 < leaf_count p → to.leaf ≡ at.leaf → to.past ≡ at.past + 1 → Steps t first (pairs ++ found) [] leaf0 old new (Some at) → Steps t tree pairs path leaf0 old new (Some to)
   pre_first_next new at to lt s o f =
@@ -117,7 +117,7 @@ module _ (t : Tests) (tree : Tree) (work : ℕ) (more found : List Pair) (p q fi
 
 -- one more workspace that was reset fits its type
 pub past_fits : (t : Tests) (tree : Tree) (pairs : List Pair) (path : List ℕ) (leaf : ℕ) (old new : List ℕ) (at : Stand) → leaf_count tree < 2 ^ 32 → Steps t tree pairs path leaf old new (Some at) → at.past + 1 < 2 ^ 32
-past_fits t tree pairs path leaf old new at few f = omega (arith, f.goes.0.resets, works_few tree at.leaf, few)
+past_fits t tree pairs path leaf old new at few f = omega (arith, (f.goes.0 []).resets, works_few tree at.leaf, few)
 
 -- at a substituted loop nothing comes after
 pub lanes_end : (t : Tests) (tree : Tree) (walk : Option Walk) (v n : ℕ) (body given : Tree) (pairs : List Pair) (path old : List ℕ) (leaf0 : ℕ) → tree ≡ Loop v n walk body → given ≡ body → is_kernel_leaf given ≡ true → IsAt tree old leaf0 → Steps t tree pairs path leaf0 old old None

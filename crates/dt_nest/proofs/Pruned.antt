@@ -18,13 +18,13 @@ use Rattle.dt_nest.specs.Meaning.{Env, known, renamed, under, guards_hold, take_
 use Rattle.dt_nest.specs.World.{world_of, FitsWalk, FitsWalks}
 use Rattle.dt_nest.specs.FitsStored.{FitsStored}
 use Rattle.dt_nest.specs.Lawful.{WalkBelow, IsNamed, sources, is_replaced, AreOrdered, AreLoops, Loops, also, Follows, take_before, WalkFollows, AllFollow, AreGuarded, HaveGuards, IsLawful}
-use Rattle.dt_nest.specs.Inside.{guard_holds, renamed_extents}
-use Rattle.dt_nest.specs.Each.{all_get}
-use Rattle.dt_nest.specs.Visits.{Item, IsVisit, value_in, tests_of, with_reset, values_on, lane_visit, is_valid, substituted_visits, tree_visits, no_slots, visits_of}
+use Rattle.dt_nest.proofs.Inside.{guard_holds, renamed_extents}
+use Rattle.dt_nest.proofs.Each.{all_get}
+use Rattle.dt_nest.specs.Visits.{Scope, at_root, entered, in_producer, Item, IsVisit, value_in, tests_of, with_reset, values_on, lane_visit, is_valid, substituted_visits, tree_visits, no_slots, visits_of}
 use Rattle.dt_nest.specs.Values.{inside_in, with_first, all_inside, stored_inside, guard_inside, is_below, inside_tests}
 use Rattle.dt_nest.proofs.Names.{renamed-append}
 use Rattle.dt_nest.proofs.Known.{Outside, inside_known, inside_none, split_guarded}
-use Rattle.dt_nest.specs.Agree.{known_agree, follows_more}
+use Rattle.dt_nest.proofs.Agree.{known_agree, follows_more}
 use Rattle.dt_nest.proofs.Agreement.{follows_under}
 
 flat_none : (f : ℕ → List Item) (xs : List ℕ) → ((x : ℕ) → f x ≡ []) → flat_map f xs ≡ []
@@ -92,40 +92,40 @@ module _ (stored : List StoredTensor) (s : Schedule) (each : (t : ℕ) → t < l
           let l = guard_holds stored s each ds (renamed pairs) (slice_index slots) guards keep e o.var (split_guarded ds guards around (renamed pairs) g o.var o.split o.follows) in
           absurd (omega (arith, l, o.past))
 
-  no_lanes : (walk : Option Walk) (v n : ℕ) (body : Tree) (around : Loops) (pairs : List Pair) (slots : List ℕ) → around v ≡ false → Keeps pairs → HaveGuards ds body (also around v) (renamed pairs) → Out around pairs slots
-      → substituted_visits (tests_of (world_of stored s) ds) walk v n body pairs slots ≡ []
-  no_lanes walk v n (Loop u m more inner) around pairs slots f keep g o = refl
-  no_lanes walk v n (Pre work more p q) around pairs slots f keep g o = refl
-  no_lanes walk v n (Leaf lhs terms guards kernel) around pairs slots f keep g o =
-      ap (lane_visit (record { lhs = lhs; terms = terms; guards = guards; kernel = kernel }) pairs slots v n)
-      (filter_none (is_valid (tests_of (world_of stored s) ds) walk v guards pairs slots) (range_with_len 0 n)
-      (λ x. and_false ((tests_of (world_of stored s) ds).takes walk v pairs (slice_set slots v x)) (guards_hold (world_of stored s) (value_in (world_of stored s) ds pairs (slice_set slots v x)) guards) (leaf_fails guards (also around v) pairs (slice_set slots v x) keep g (deeper around pairs slots v x f o))))
+  no_lanes : (walk : Option Walk) (v n : ℕ) (body : Tree) (around : Loops) (scope : Scope) (slots : List ℕ) → around v ≡ false → Keeps scope.pairs → HaveGuards ds body (also around v) (renamed scope.pairs) → Out around scope.pairs slots
+      → substituted_visits (tests_of (world_of stored s) ds) walk v n body scope slots ≡ []
+  no_lanes walk v n (Loop u m more inner) around scope slots f keep g o = refl
+  no_lanes walk v n (Pre work more p q) around scope slots f keep g o = refl
+  no_lanes walk v n (Leaf lhs terms guards kernel) around scope slots f keep g o =
+      ap (lane_visit (record { lhs = lhs; terms = terms; guards = guards; kernel = kernel }) scope slots v n)
+      (filter_none (is_valid (tests_of (world_of stored s) ds) walk v guards scope.pairs slots) (range_with_len 0 n)
+      (λ x. and_false ((tests_of (world_of stored s) ds).takes walk v scope.pairs (slice_set slots v x)) (guards_hold (world_of stored s) (value_in (world_of stored s) ds scope.pairs (slice_set slots v x)) guards) (leaf_fails guards (also around v) scope.pairs (slice_set slots v x) keep g (deeper around scope.pairs slots v x f o))))
 
   -- where a variable is outside there is no visit
-  no_visits : (tree : Tree) (around : Loops) (pairs : List Pair) (slots path : List ℕ) → IsNamed s tree → AllFollow ds tree around (renamed pairs) → HaveGuards ds tree around (renamed pairs) → AreLoops ds tree → ArePlain around → Keeps pairs → Out around pairs slots
-      → tree_visits (tests_of (world_of stored s) ds) tree pairs slots path ≡ []
-  no_visits (Loop v n walk body) around pairs slots path named a g loops plain keep o =
-      go (is_kernel_leaf body) (no_lanes walk v n body around pairs slots a.0 keep g o)
-      (λ i. no_visits body (also around v) pairs (slice_set slots v i) (drop 1 path) named.3 a.3 g loops.1 (more_plain around v plain loops.0) keep (deeper around pairs slots v i a.0 o))
+  no_visits : (tree : Tree) (around : Loops) (scope : Scope) (slots path : List ℕ) → IsNamed s tree → AllFollow ds tree around (renamed scope.pairs) → HaveGuards ds tree around (renamed scope.pairs) → AreLoops ds tree → ArePlain around → Keeps scope.pairs → Out around scope.pairs slots
+      → tree_visits (tests_of (world_of stored s) ds) tree scope slots path ≡ []
+  no_visits (Loop v n walk body) around scope slots path named a g loops plain keep o =
+      go (is_kernel_leaf body) (no_lanes walk v n body around scope slots a.0 keep g o)
+      (λ i. no_visits body (also around v) (entered scope v) (slice_set slots v i) (drop 1 path) named.3 a.3 g loops.1 (more_plain around v plain loops.0) keep (deeper around scope.pairs slots v i a.0 o))
     where
       none : (t : Bool) (l : List Item) → l ≡ [] → (if t then l else []) ≡ []
       none true l e = e
       none false l e = refl
 
-      go : (b : Bool) → substituted_visits (tests_of (world_of stored s) ds) walk v n body pairs slots ≡ [] → ((i : ℕ) → tree_visits (tests_of (world_of stored s) ds) body pairs (slice_set slots v i) (drop 1 path) ≡ [])
-          → (if b then substituted_visits (tests_of (world_of stored s) ds) walk v n body pairs slots
-          else flat_map (λ i. if (tests_of (world_of stored s) ds).takes walk v pairs (slice_set slots v i) then tree_visits (tests_of (world_of stored s) ds) body pairs (slice_set slots v i) (drop 1 path) else []) (values_on path n)) ≡ []
+      go : (b : Bool) → substituted_visits (tests_of (world_of stored s) ds) walk v n body scope slots ≡ [] → ((i : ℕ) → tree_visits (tests_of (world_of stored s) ds) body (entered scope v) (slice_set slots v i) (drop 1 path) ≡ [])
+          → (if b then substituted_visits (tests_of (world_of stored s) ds) walk v n body scope slots
+          else flat_map (λ i. if (tests_of (world_of stored s) ds).takes walk v scope.pairs (slice_set slots v i) then tree_visits (tests_of (world_of stored s) ds) body (entered scope v) (slice_set slots v i) (drop 1 path) else []) (values_on path n)) ≡ []
       go true k h = k
-      go false k h = flat_none (λ i. if (tests_of (world_of stored s) ds).takes walk v pairs (slice_set slots v i) then tree_visits (tests_of (world_of stored s) ds) body pairs (slice_set slots v i) (drop 1 path) else []) (values_on path n)
-          (λ i. none ((tests_of (world_of stored s) ds).takes walk v pairs (slice_set slots v i)) (tree_visits (tests_of (world_of stored s) ds) body pairs (slice_set slots v i) (drop 1 path)) (h i))
-  no_visits (Pre work more p q) around pairs slots path named a g loops plain keep o =
-      let e : renamed (pairs ++ more) ≡ under more (renamed pairs) = fun_ext (renamed-append pairs more) in
-      let first = no_visits p around (pairs ++ more) slots [] named.2 (subst (AllFollow ds p around) (sym e) a.1) (subst (HaveGuards ds p around) (sym e) g.0) loops.0 plain
-      (λ u. ap (slice_index s.extents) (renamed-append pairs more u) ∙ renamed_extents s more named.1 (renamed pairs u) ∙ keep u) (below_pre around pairs more slots plain a.0 o) in
-      let second = no_visits q around pairs slots [] named.3 a.2 g.1 loops.1 plain keep o in
-      ap (λ (l : List Item). with_reset work (l ++ tree_visits (tests_of (world_of stored s) ds) q pairs slots [])) first ∙ ap (with_reset work) second
-  no_visits (Leaf lhs terms guards kernel) around pairs slots path named a g loops plain keep o =
-      ap (λ (b : Bool). if b then IsVisit (record { leaf = record { lhs = lhs; terms = terms; guards = guards; kernel = kernel }; pairs = pairs; slots = slots; lanes = None }) ∷ [] else []) (leaf_fails guards around pairs slots keep g o)
+      go false k h = flat_none (λ i. if (tests_of (world_of stored s) ds).takes walk v scope.pairs (slice_set slots v i) then tree_visits (tests_of (world_of stored s) ds) body (entered scope v) (slice_set slots v i) (drop 1 path) else []) (values_on path n)
+          (λ i. none ((tests_of (world_of stored s) ds).takes walk v scope.pairs (slice_set slots v i)) (tree_visits (tests_of (world_of stored s) ds) body (entered scope v) (slice_set slots v i) (drop 1 path)) (h i))
+  no_visits (Pre work more p q) around scope slots path named a g loops plain keep o =
+      let e : renamed (scope.pairs ++ more) ≡ under more (renamed scope.pairs) = fun_ext (renamed-append scope.pairs more) in
+      let first = no_visits p around (in_producer scope more) slots [] named.2 (subst (AllFollow ds p around) (sym e) a.1) (subst (HaveGuards ds p around) (sym e) g.0) loops.0 plain
+      (λ u. ap (slice_index s.extents) (renamed-append scope.pairs more u) ∙ renamed_extents s more named.1 (renamed scope.pairs u) ∙ keep u) (below_pre around scope.pairs more slots plain a.0 o) in
+      let second = no_visits q around scope slots [] named.3 a.2 g.1 loops.1 plain keep o in
+      ap (λ (l : List Item). with_reset work (l ++ tree_visits (tests_of (world_of stored s) ds) q scope slots [])) first ∙ ap (with_reset work) second
+  no_visits (Leaf lhs terms guards kernel) around scope slots path named a g loops plain keep o =
+      ap (λ (b : Bool). if b then IsVisit (record { leaf = record { lhs = lhs; terms = terms; guards = guards; kernel = kernel }; around = scope.around; pairs = scope.pairs; slots = slots; lanes = None }) ∷ [] else []) (leaf_fails guards around scope.pairs slots keep g o)
 
   holds_split : (guards : List ℕ) (around : Loops) (pairs : List Pair) (slots : List ℕ) → AllByRecursion (λ u. Follows ds around (renamed pairs) (renamed pairs u)) guards
       → (list_all (guard_inside (world_of stored s) (inside_in (world_of stored s) ds pairs slots)) guards ≡ guards_hold (world_of stored s) (value_in (world_of stored s) ds pairs slots) guards)
@@ -240,66 +240,66 @@ module _ (stored : List StoredTensor) (s : Schedule) (each : (t : ℕ) → t < l
         e.1,
       )
 
-  lanes_same : (walk : Option Walk) (v n : ℕ) (body : Tree) (around : Loops) (pairs : List Pair) (slots : List ℕ) → is_replaced ds v ≡ false → WalkBelow (length s.names) (length s.tensors) walk → FitsWalk stored s walk → WalkFollows ds walk v around (renamed pairs) → Keeps pairs
-      → AllFollow ds body (also around v) (renamed pairs) → HaveGuards ds body (also around v) (renamed pairs)
-      → substituted_visits (inside_tests (world_of stored s) ds) walk v n body pairs slots ≡ substituted_visits (tests_of (world_of stored s) ds) walk v n body pairs slots
-  lanes_same walk v n (Loop u m more inner) around pairs slots r b f w keep a g = refl
-  lanes_same walk v n (Pre work more p q) around pairs slots r b f w keep a g = refl
-  lanes_same walk v n (Leaf lhs terms guards kernel) around pairs slots r b f w keep a g =
-      ap (λ (p : ℕ → Bool). lane_visit (record { lhs = lhs; terms = terms; guards = guards; kernel = kernel }) pairs slots v n (filter p (range_with_len 0 n)))
-      (fun_ext (λ x. go x (takes_split walk v around pairs (slice_set slots v x) b f w r) (holds_same guards (also around v) pairs (slice_set slots v x) keep a.1 g)))
+  lanes_same : (walk : Option Walk) (v n : ℕ) (body : Tree) (around : Loops) (scope : Scope) (slots : List ℕ) → is_replaced ds v ≡ false → WalkBelow (length s.names) (length s.tensors) walk → FitsWalk stored s walk → WalkFollows ds walk v around (renamed scope.pairs) → Keeps scope.pairs
+      → AllFollow ds body (also around v) (renamed scope.pairs) → HaveGuards ds body (also around v) (renamed scope.pairs)
+      → substituted_visits (inside_tests (world_of stored s) ds) walk v n body scope slots ≡ substituted_visits (tests_of (world_of stored s) ds) walk v n body scope slots
+  lanes_same walk v n (Loop u m more inner) around scope slots r b f w keep a g = refl
+  lanes_same walk v n (Pre work more p q) around scope slots r b f w keep a g = refl
+  lanes_same walk v n (Leaf lhs terms guards kernel) around scope slots r b f w keep a g =
+      ap (λ (p : ℕ → Bool). lane_visit (record { lhs = lhs; terms = terms; guards = guards; kernel = kernel }) scope slots v n (filter p (range_with_len 0 n)))
+      (fun_ext (λ x. go x (takes_split walk v around scope.pairs (slice_set slots v x) b f w r) (holds_same guards (also around v) scope.pairs (slice_set slots v x) keep a.1 g)))
     where
-      go : (x : ℕ) → ((inside_tests (world_of stored s) ds).takes walk v pairs (slice_set slots v x) ≡ (tests_of (world_of stored s) ds).takes walk v pairs (slice_set slots v x))
-          ⊎ (((inside_tests (world_of stored s) ds).takes walk v pairs (slice_set slots v x) ≡ false) × Out (also around v) pairs (slice_set slots v x))
-          → (inside_tests (world_of stored s) ds).holds guards pairs (slice_set slots v x) ≡ (tests_of (world_of stored s) ds).holds guards pairs (slice_set slots v x)
-          → is_valid (inside_tests (world_of stored s) ds) walk v guards pairs slots x ≡ is_valid (tests_of (world_of stored s) ds) walk v guards pairs slots x
-      go x (inl e) h = ap (λ (t : Bool). t && (inside_tests (world_of stored s) ds).holds guards pairs (slice_set slots v x)) e ∙ ap (λ (t : Bool). (tests_of (world_of stored s) ds).takes walk v pairs (slice_set slots v x) && t) h
+      go : (x : ℕ) → ((inside_tests (world_of stored s) ds).takes walk v scope.pairs (slice_set slots v x) ≡ (tests_of (world_of stored s) ds).takes walk v scope.pairs (slice_set slots v x))
+          ⊎ (((inside_tests (world_of stored s) ds).takes walk v scope.pairs (slice_set slots v x) ≡ false) × Out (also around v) scope.pairs (slice_set slots v x))
+          → (inside_tests (world_of stored s) ds).holds guards scope.pairs (slice_set slots v x) ≡ (tests_of (world_of stored s) ds).holds guards scope.pairs (slice_set slots v x)
+          → is_valid (inside_tests (world_of stored s) ds) walk v guards scope.pairs slots x ≡ is_valid (tests_of (world_of stored s) ds) walk v guards scope.pairs slots x
+      go x (inl e) h = ap (λ (t : Bool). t && (inside_tests (world_of stored s) ds).holds guards scope.pairs (slice_set slots v x)) e ∙ ap (λ (t : Bool). (tests_of (world_of stored s) ds).takes walk v scope.pairs (slice_set slots v x) && t) h
       go x (inr e) h =
-          ap (λ (t : Bool). t && (inside_tests (world_of stored s) ds).holds guards pairs (slice_set slots v x)) e.0
-          ∙ sym (and_false ((tests_of (world_of stored s) ds).takes walk v pairs (slice_set slots v x)) ((tests_of (world_of stored s) ds).holds guards pairs (slice_set slots v x)) (leaf_fails guards (also around v) pairs (slice_set slots v x) keep g e.1))
+          ap (λ (t : Bool). t && (inside_tests (world_of stored s) ds).holds guards scope.pairs (slice_set slots v x)) e.0
+          ∙ sym (and_false ((tests_of (world_of stored s) ds).takes walk v scope.pairs (slice_set slots v x)) ((tests_of (world_of stored s) ds).holds guards scope.pairs (slice_set slots v x)) (leaf_fails guards (also around v) scope.pairs (slice_set slots v x) keep g e.1))
 
   -- the visits under both tests are the same
-  pub same_visits : (tree : Tree) (around : Loops) (pairs : List Pair) (slots path : List ℕ) → IsNamed s tree → FitsWalks stored s tree → AllFollow ds tree around (renamed pairs) → HaveGuards ds tree around (renamed pairs) → AreLoops ds tree → ArePlain around → Keeps pairs
-      → tree_visits (inside_tests (world_of stored s) ds) tree pairs slots path ≡ tree_visits (tests_of (world_of stored s) ds) tree pairs slots path
-  same_visits (Loop v n walk body) around pairs slots path named fits a g loops plain keep =
-      go (is_kernel_leaf body) (lanes_same walk v n body around pairs slots loops.0 named.2 fits.0 a.2 keep a.3 g)
-      (λ i. value i (takes_split walk v around pairs (slice_set slots v i) named.2 fits.0 a.2 loops.0) (same_visits body (also around v) pairs (slice_set slots v i) (drop 1 path) named.3 fits.1 a.3 g loops.1 (more_plain around v plain loops.0) keep))
+  pub same_visits : (tree : Tree) (around : Loops) (scope : Scope) (slots path : List ℕ) → IsNamed s tree → FitsWalks stored s tree → AllFollow ds tree around (renamed scope.pairs) → HaveGuards ds tree around (renamed scope.pairs) → AreLoops ds tree → ArePlain around → Keeps scope.pairs
+      → tree_visits (inside_tests (world_of stored s) ds) tree scope slots path ≡ tree_visits (tests_of (world_of stored s) ds) tree scope slots path
+  same_visits (Loop v n walk body) around scope slots path named fits a g loops plain keep =
+      go (is_kernel_leaf body) (lanes_same walk v n body around scope slots loops.0 named.2 fits.0 a.2 keep a.3 g)
+      (λ i. value i (takes_split walk v around scope.pairs (slice_set slots v i) named.2 fits.0 a.2 loops.0) (same_visits body (also around v) (entered scope v) (slice_set slots v i) (drop 1 path) named.3 fits.1 a.3 g loops.1 (more_plain around v plain loops.0) keep))
     where
       nothing : (b : Bool) (l : List Item) → l ≡ [] → (if b then l else []) ≡ []
       nothing true l e = e
       nothing false l e = refl
 
-      value : (i : ℕ) → ((inside_tests (world_of stored s) ds).takes walk v pairs (slice_set slots v i) ≡ (tests_of (world_of stored s) ds).takes walk v pairs (slice_set slots v i))
-          ⊎ (((inside_tests (world_of stored s) ds).takes walk v pairs (slice_set slots v i) ≡ false) × Out (also around v) pairs (slice_set slots v i))
-          → tree_visits (inside_tests (world_of stored s) ds) body pairs (slice_set slots v i) (drop 1 path) ≡ tree_visits (tests_of (world_of stored s) ds) body pairs (slice_set slots v i) (drop 1 path)
-          → (if (inside_tests (world_of stored s) ds).takes walk v pairs (slice_set slots v i) then tree_visits (inside_tests (world_of stored s) ds) body pairs (slice_set slots v i) (drop 1 path) else [])
-          ≡ (if (tests_of (world_of stored s) ds).takes walk v pairs (slice_set slots v i) then tree_visits (tests_of (world_of stored s) ds) body pairs (slice_set slots v i) (drop 1 path) else [])
+      value : (i : ℕ) → ((inside_tests (world_of stored s) ds).takes walk v scope.pairs (slice_set slots v i) ≡ (tests_of (world_of stored s) ds).takes walk v scope.pairs (slice_set slots v i))
+          ⊎ (((inside_tests (world_of stored s) ds).takes walk v scope.pairs (slice_set slots v i) ≡ false) × Out (also around v) scope.pairs (slice_set slots v i))
+          → tree_visits (inside_tests (world_of stored s) ds) body (entered scope v) (slice_set slots v i) (drop 1 path) ≡ tree_visits (tests_of (world_of stored s) ds) body (entered scope v) (slice_set slots v i) (drop 1 path)
+          → (if (inside_tests (world_of stored s) ds).takes walk v scope.pairs (slice_set slots v i) then tree_visits (inside_tests (world_of stored s) ds) body (entered scope v) (slice_set slots v i) (drop 1 path) else [])
+          ≡ (if (tests_of (world_of stored s) ds).takes walk v scope.pairs (slice_set slots v i) then tree_visits (tests_of (world_of stored s) ds) body (entered scope v) (slice_set slots v i) (drop 1 path) else [])
       value i (inl e) h =
-          ap (λ (t : Bool). if t then tree_visits (inside_tests (world_of stored s) ds) body pairs (slice_set slots v i) (drop 1 path) else []) e
-          ∙ ap (λ (l : List Item). if (tests_of (world_of stored s) ds).takes walk v pairs (slice_set slots v i) then l else []) h
+          ap (λ (t : Bool). if t then tree_visits (inside_tests (world_of stored s) ds) body (entered scope v) (slice_set slots v i) (drop 1 path) else []) e
+          ∙ ap (λ (l : List Item). if (tests_of (world_of stored s) ds).takes walk v scope.pairs (slice_set slots v i) then l else []) h
       value i (inr e) h =
-          ap (λ (t : Bool). if t then tree_visits (inside_tests (world_of stored s) ds) body pairs (slice_set slots v i) (drop 1 path) else []) e.0
-          ∙ sym (nothing ((tests_of (world_of stored s) ds).takes walk v pairs (slice_set slots v i)) (tree_visits (tests_of (world_of stored s) ds) body pairs (slice_set slots v i) (drop 1 path))
-          (no_visits body (also around v) pairs (slice_set slots v i) (drop 1 path) named.3 a.3 g loops.1 (more_plain around v plain loops.0) keep e.1))
+          ap (λ (t : Bool). if t then tree_visits (inside_tests (world_of stored s) ds) body (entered scope v) (slice_set slots v i) (drop 1 path) else []) e.0
+          ∙ sym (nothing ((tests_of (world_of stored s) ds).takes walk v scope.pairs (slice_set slots v i)) (tree_visits (tests_of (world_of stored s) ds) body (entered scope v) (slice_set slots v i) (drop 1 path))
+          (no_visits body (also around v) (entered scope v) (slice_set slots v i) (drop 1 path) named.3 a.3 g loops.1 (more_plain around v plain loops.0) keep e.1))
 
-      go : (b : Bool) → substituted_visits (inside_tests (world_of stored s) ds) walk v n body pairs slots ≡ substituted_visits (tests_of (world_of stored s) ds) walk v n body pairs slots
-          → ((i : ℕ) → (if (inside_tests (world_of stored s) ds).takes walk v pairs (slice_set slots v i) then tree_visits (inside_tests (world_of stored s) ds) body pairs (slice_set slots v i) (drop 1 path) else [])
-          ≡ (if (tests_of (world_of stored s) ds).takes walk v pairs (slice_set slots v i) then tree_visits (tests_of (world_of stored s) ds) body pairs (slice_set slots v i) (drop 1 path) else []))
-          → (if b then substituted_visits (inside_tests (world_of stored s) ds) walk v n body pairs slots
-          else flat_map (λ i. if (inside_tests (world_of stored s) ds).takes walk v pairs (slice_set slots v i) then tree_visits (inside_tests (world_of stored s) ds) body pairs (slice_set slots v i) (drop 1 path) else []) (values_on path n))
-          ≡ (if b then substituted_visits (tests_of (world_of stored s) ds) walk v n body pairs slots
-          else flat_map (λ i. if (tests_of (world_of stored s) ds).takes walk v pairs (slice_set slots v i) then tree_visits (tests_of (world_of stored s) ds) body pairs (slice_set slots v i) (drop 1 path) else []) (values_on path n))
+      go : (b : Bool) → substituted_visits (inside_tests (world_of stored s) ds) walk v n body scope slots ≡ substituted_visits (tests_of (world_of stored s) ds) walk v n body scope slots
+          → ((i : ℕ) → (if (inside_tests (world_of stored s) ds).takes walk v scope.pairs (slice_set slots v i) then tree_visits (inside_tests (world_of stored s) ds) body (entered scope v) (slice_set slots v i) (drop 1 path) else [])
+          ≡ (if (tests_of (world_of stored s) ds).takes walk v scope.pairs (slice_set slots v i) then tree_visits (tests_of (world_of stored s) ds) body (entered scope v) (slice_set slots v i) (drop 1 path) else []))
+          → (if b then substituted_visits (inside_tests (world_of stored s) ds) walk v n body scope slots
+          else flat_map (λ i. if (inside_tests (world_of stored s) ds).takes walk v scope.pairs (slice_set slots v i) then tree_visits (inside_tests (world_of stored s) ds) body (entered scope v) (slice_set slots v i) (drop 1 path) else []) (values_on path n))
+          ≡ (if b then substituted_visits (tests_of (world_of stored s) ds) walk v n body scope slots
+          else flat_map (λ i. if (tests_of (world_of stored s) ds).takes walk v scope.pairs (slice_set slots v i) then tree_visits (tests_of (world_of stored s) ds) body (entered scope v) (slice_set slots v i) (drop 1 path) else []) (values_on path n))
       go true k h = k
       go false k h = ap (λ (f : ℕ → List Item). flat_map f (values_on path n)) (fun_ext h)
-  same_visits (Pre work more p q) around pairs slots path named fits a g loops plain keep =
-      let e : renamed (pairs ++ more) ≡ under more (renamed pairs) = fun_ext (renamed-append pairs more) in
-      let first = same_visits p around (pairs ++ more) slots [] named.2 fits.0 (subst (AllFollow ds p around) (sym e) a.1) (subst (HaveGuards ds p around) (sym e) g.0) loops.0 plain
-      (λ u. ap (slice_index s.extents) (renamed-append pairs more u) ∙ renamed_extents s more named.1 (renamed pairs u) ∙ keep u) in
-      let second = same_visits q around pairs slots [] named.3 fits.1 a.2 g.1 loops.1 plain keep in
-      ap (λ (l : List Item). with_reset work (l ++ tree_visits (inside_tests (world_of stored s) ds) q pairs slots [])) first
-      ∙ ap (λ (l : List Item). with_reset work (tree_visits (tests_of (world_of stored s) ds) p (pairs ++ more) slots [] ++ l)) second
-  same_visits (Leaf lhs terms guards kernel) around pairs slots path named fits a g loops plain keep =
-      ap (λ (b : Bool). if b then IsVisit (record { leaf = record { lhs = lhs; terms = terms; guards = guards; kernel = kernel }; pairs = pairs; slots = slots; lanes = None }) ∷ [] else []) (holds_same guards around pairs slots keep a.1 g)
+  same_visits (Pre work more p q) around scope slots path named fits a g loops plain keep =
+      let e : renamed (scope.pairs ++ more) ≡ under more (renamed scope.pairs) = fun_ext (renamed-append scope.pairs more) in
+      let first = same_visits p around (in_producer scope more) slots [] named.2 fits.0 (subst (AllFollow ds p around) (sym e) a.1) (subst (HaveGuards ds p around) (sym e) g.0) loops.0 plain
+      (λ u. ap (slice_index s.extents) (renamed-append scope.pairs more u) ∙ renamed_extents s more named.1 (renamed scope.pairs u) ∙ keep u) in
+      let second = same_visits q around scope slots [] named.3 fits.1 a.2 g.1 loops.1 plain keep in
+      ap (λ (l : List Item). with_reset work (l ++ tree_visits (inside_tests (world_of stored s) ds) q scope slots [])) first
+      ∙ ap (λ (l : List Item). with_reset work (tree_visits (tests_of (world_of stored s) ds) p (in_producer scope more) slots [] ++ l)) second
+  same_visits (Leaf lhs terms guards kernel) around scope slots path named fits a g loops plain keep =
+      ap (λ (b : Bool). if b then IsVisit (record { leaf = record { lhs = lhs; terms = terms; guards = guards; kernel = kernel }; around = scope.around; pairs = scope.pairs; slots = slots; lanes = None }) ∷ [] else []) (holds_same guards around scope.pairs slots keep a.1 g)
 
 -- each tensor of a schedule stores what its levels ask for
 pub stored_each : (stored : List StoredTensor) (s : Schedule) → FitsStored stored s → (t : ℕ) → t < length s.tensors → IsStored (tensor_at stored t)
@@ -307,8 +307,8 @@ stored_each stored s f t k = all_get IsStored stored t (record { extents = []; c
 
 -- A lawful schedule's visits are those under the tests that fail as soon as a variable is outside, for all tensors that fit.
 pub visits_inside : (s : Schedule) (stored : List StoredTensor) (path : List ℕ) → IsLawful s → FitsStored stored s
-    → tree_visits (inside_tests (world_of stored s) s.derived) s.nest [] (no_slots s) path ≡ visits_of stored s path
+    → tree_visits (inside_tests (world_of stored s) s.derived) s.nest at_root (no_slots s) path ≡ visits_of stored s path
 unfolding visits_of
 visits_inside s stored path l f =
     same_visits stored s (stored_each stored s f) s.derived l.ordered
-    s.nest (λ u. false) [] (no_slots s) path l.named f.walks l.follows l.guards l.loops (λ u a. absurd (cc)) (λ u. refl)
+    s.nest (λ u. false) at_root (no_slots s) path l.named f.walks l.follows l.guards l.loops (λ u a. absurd (cc)) (λ u. refl)

@@ -14,7 +14,7 @@ use Rattle.dt_nest.specs.Meaning.{Env, Entries, nest_sum}
 use Rattle.dt_nest.specs.World.{world_of, entries_of}
 use Rattle.dt_nest.specs.Lawful.{IsNamed, nodes_with, IsOneOf, WorksStand, IsLawful}
 use Rattle.dt_nest.specs.Odometer.{HaveSlots}
-use Rattle.dt_nest.specs.Visits.{no_slots, tests_of, tree_visits, visits_of}
+use Rattle.dt_nest.specs.Visits.{at_root, no_slots, tests_of, tree_visits, visits_of}
 use Rattle.dt_nest.specs.Effects.{entries_after, VisitsAddTheSum, SumReadsTensors}
 use Rattle.dt_nest.specs.Outputs.{output_of, reads_of, IsUnread}
 use Rattle.dt_nest.proofs.OwnSlots.{have_slots, zero_at}
@@ -47,7 +47,7 @@ read_below n u works (a ∷ accesses) h e f = or_cases (u < n) (nat_eq a.tensor 
     here i = or_cases (u < n) (nat_lt u n) (list_any (λ w. nat_eq u (n + w)) works) (subst (λ (t : ℕ). (nat_lt t n || list_any (λ w. nat_eq t (n + w)) works) ≡ true) i h.0) (λ t. ltb-true u n t) (λ t. absurd (cc))
 
 -- what a tree reads and doesn't make is a tensor
-free_below : (n u : ℕ) (tree : Tree) (written read : List ℕ) → WorksStand n tree written read → reads_free n u tree ≡ true → list_any (λ w. nat_eq u (n + w)) read ≡ false → u < n
+pub free_below : (n u : ℕ) (tree : Tree) (written read : List ℕ) → WorksStand n tree written read → reads_free n u tree ≡ true → list_any (λ w. nat_eq u (n + w)) read ≡ false → u < n
 free_below n u (Loop v m walk body) written read h e f = free_below n u body written read h e f
 free_below n u (Pre work pairs p q) written read h e f =
     or_cases (u < n) (reads_free n u p) (not (nat_eq u (n + work)) && reads_free n u q) e (λ t. free_below n u p (work ∷ written) read h.0 t f)
@@ -87,14 +87,14 @@ free_read n u (Pre work pairs p q) e =
 free_read n u (Leaf lhs terms guards kernel) e = e
 
 -- the last leaf writes a tensor
-output_below : (n : ℕ) (tree : Tree) (read : List ℕ) → WorksStand n tree [] read → output_of tree < n
+pub output_below : (n : ℕ) (tree : Tree) (read : List ℕ) → WorksStand n tree [] read → output_of tree < n
 output_below n (Loop v m walk body) read h = output_below n body read h
 output_below n (Pre work pairs p q) read h = output_below n q (work ∷ read) h.1
 output_below n (Leaf lhs terms guards kernel) read h = or_cases (lhs.tensor < n) (nat_lt lhs.tensor n) false h.0 (λ t. ltb-true lhs.tensor n t) (λ t. absurd (cc))
 
 module _ (stored : List StoredTensor) (s : Schedule) (lawful : IsLawful s) (unread : IsUnread (output_of s.nest) s.nest) where
   -- in a lawful schedule what is written stands apart from what is read
-  root_apart : IsApart (world_of stored s) s.derived s.nest
+  pub root_apart : IsApart (world_of stored s) s.derived s.nest
   root_apart = record {
     writes = lawful.works.written;
     once = λ k. once k (nat_lt k (length s.works)) (ltb-true k (length s.works)) (ltb-false k (length s.works));
@@ -112,8 +112,8 @@ module _ (stored : List StoredTensor) (s : Schedule) (lawful : IsLawful s) (unre
   root_adds : (x : Entries) → Adds (world_of stored s) s.derived s.nest (nest_sum (world_of stored s) s.derived s.nest x (λ u. u) (λ u. 0)) x (entries_after (world_of stored s) s.derived (visits_of stored s []) x)
   unfolding visits_of
   root_adds x =
-      subst (λ (env : Env). Adds (world_of stored s) s.derived s.nest (nest_sum (world_of stored s) s.derived s.nest x (λ u. u) env) x (entries_after (world_of stored s) s.derived (tree_visits (tests_of (world_of stored s) s.derived) s.nest [] (no_slots s) []) x)) (fun_ext (λ u. zero_at (length s.names) u))
-      (tree_adds (world_of stored s) s.derived s.nest (λ u. false) [] (no_slots s) x root_apart (subst (HaveSlots s.nest) (sym (length-replicate {A = ℕ} (length s.names) 0)) (have_slots s lawful)) lawful.follows lawful.kernels.1)
+      subst (λ (env : Env). Adds (world_of stored s) s.derived s.nest (nest_sum (world_of stored s) s.derived s.nest x (λ u. u) env) x (entries_after (world_of stored s) s.derived (tree_visits (tests_of (world_of stored s) s.derived) s.nest at_root (no_slots s) []) x)) (fun_ext (λ u. zero_at (length s.names) u))
+      (tree_adds (world_of stored s) s.derived s.nest (λ u. false) at_root (no_slots s) x root_apart (subst (HaveSlots s.nest) (sym (length-replicate {A = ℕ} (length s.names) 0)) (have_slots s lawful)) lawful.follows lawful.kernels.1)
 
 -- the visits of a lawful schedule add its sum
 pub visits_add : VisitsAddTheSum

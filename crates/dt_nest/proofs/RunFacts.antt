@@ -4,26 +4,27 @@ use Rattle.std.specs.Prelude.{MatchOption, slice_index, slice_set}
 use Rattle.std.proofs.lemmas.List.{length-replicate}
 use Rattle.dt_model.specs.Positions.{StoredTensor}
 use Rattle.dt_nest.specs.declared.branches.Substituted.{Substituted}
-use Rattle.dt_nest.specs.declared.loops.Pair.{Pair}
 use Rattle.dt_nest.specs.declared.wheels.Wheels.{Wheels}
 use Rattle.dt_nest.specs.declared.progress.Progress.{Progress}
 use Rattle.dt_nest.specs.declared.progress.Progress.TheVariants.{Before, Resetting, On, Done}
 use Rattle.dt_nest.specs.Schedule.{Schedule}
 use Rattle.dt_nest.specs.World.{world_of}
-use Rattle.dt_nest.specs.Lawful.{Follows, IsLawful}
+use Rattle.dt_nest.specs.declared.derivations.Derived.{Derived}
+use Rattle.dt_nest.specs.declared.loops.Pair.{Pair}
+use Rattle.dt_nest.specs.Lawful.{Loops, Follows, IsLawful}
 use Rattle.dt_nest.specs.Meaning.{renamed}
 use Rattle.dt_nest.specs.FitsStored.{FitsStored}
 use Rattle.dt_nest.specs.Values.{inside_in}
-use Rattle.dt_nest.specs.Visits.{Lanes, IsPath, no_slots, value_in}
+use Rattle.dt_nest.specs.Visits.{Lanes, at_root, IsPath, no_slots, value_in}
 use Rattle.dt_nest.specs.Odometer.{IsAt, pairs_at}
 use Rattle.dt_nest.specs.Branch.{leaf_at, loops_at, node_at, substituted_at, valid_at, lanes_at}
-use Rattle.dt_nest.specs.Run.{run_over, IsAtLeaf, OnLanes, HasValue, HasLaneValue, IsValue, IsLaneValue, is_among, IsLeafOf, AreValued, IsExtent, AreAscending, OnVisit, among, with_lane, GuardsHold, run_tests, run_of, standing, IsKept, IsSound}
+use Rattle.dt_nest.specs.Run.{run_over, IsAtLeaf, OnLanes, HasValue, HasLaneValue, IsValue, IsLaneValue, is_among, IsLeafOf, AreValued, HaveLoopValues, HaveTestValues, IsExtent, AreAscending, OnVisit, among, with_lane, GuardsHold, run_tests, run_of, standing, IsSound}
+use Rattle.dt_nest.specs.Visited.{IsKept}
 use Rattle.dt_nest.specs.Tables.{tabled}
 use Rattle.dt_nest.specs.Wheels.{AreWheels}
-use Rattle.dt_nest.proofs.Turns.{last_pairs}
 use Rattle.dt_nest.proofs.OwnSlots.{none_entered}
 use Rattle.dt_nest.proofs.Holding.{visits_hold}
-use Rattle.dt_nest.proofs.LeafFacts.{leaf-node, LaneIs, lane_is, LeafFacts, leaf_facts, value_there, lane_value_there, below_there, lane_below_there}
+use Rattle.dt_nest.proofs.LeafFacts.{leaf-node, LaneFollows, LaneIs, lane_is, LeafFacts, leaf_facts, value_there, lane_value_there, below_there, lane_below_there}
 use Rattle.dt_nest.proofs.Pruned.{stored_each, visits_inside}
 
 module _ (stored : List StoredTensor) (s : Schedule) (path slots : List ℕ) where
@@ -36,23 +37,23 @@ module _ (stored : List StoredTensor) (s : Schedule) (path slots : List ℕ) whe
       goes = p;
       room = length-replicate (length s.names) 0;
       stands = none_entered s.nest (length s.names);
-      left = visits_hold (run_tests stored s) s.nest [] (no_slots s) path;
+      left = visits_hold (run_tests stored s) s.nest at_root (no_slots s) path;
     };
     last = tt;
   })
 
   -- and nothing else is kept than its wheels
   pub kept_before : (w : Wheels) (values : List (Option ℕ)) → AreWheels s path w → length values ≡ length s.names → IsKept stored s path slots Before w values
-  kept_before w values a e = record { wheels = a; room = e; table = λ p. absurd (cc) }
+  kept_before w values a e = record { wheels = a; room = e; table = λ leaf p. absurd (cc) }
 
   -- and has all visits left
   pub starts : IsLawful s → FitsStored stored s → slots ≡ no_slots s → run_of stored s path slots Before ≡ run_over stored s path
   starts l f e = subst (λ (x : List ℕ). run_of stored s path x Before ≡ run_over stored s path) (sym e)
-      (let v = visits_inside s stored path l f in ap (λ items. record { sched = s; stored = stored; last = None; around = []; left = items }) v)
+      (let v = visits_inside s stored path l f in ap (λ items. record { sched = s; stored = stored; last = None; left = items }) v)
 
 module _ (stored : List StoredTensor) (s : Schedule) (path slots : List ℕ) (p : Progress) (i : IsSound stored s path slots p) where
   facts : (leaf : ℕ) → IsAt s.nest slots leaf → LeafFacts s s.derived slots (among (loops_at s.nest [] leaf)) (pairs_at s.nest leaf) (node_at s.nest leaf) (lanes_at (run_tests stored s) s.nest [] slots leaf)
-  facts leaf at = leaf_facts s s.derived (run_tests stored s) s.nest [] [] slots leaf at (λ u a. absurd (cc)) i.on.lawful.named i.on.lawful.follows i.on.lawful.guards i.on.lawful.kernels.1 (λ u. refl)
+  facts leaf at = leaf_facts s s.derived i.on.lawful.ordered (run_tests stored s) s.nest [] [] slots leaf at (λ u a. absurd (cc)) i.on.lawful.named i.on.lawful.follows i.on.lawful.guards i.on.lawful.kernels.1 (λ u. refl) i.on.lawful.loops (record { plain = λ u a. absurd (cc); follow = λ u a. absurd (cc) })
 
   pub leaf_answer : IsAtLeaf (run_of stored s path slots p) → IsLeafOf (run_of stored s path slots p) (leaf_at s.nest (standing p))
   leaf_answer a = go p a
@@ -70,6 +71,30 @@ module _ (stored : List StoredTensor) (s : Schedule) (path slots : List ℕ) (p 
       go Before i a = absurd a
       go (Resetting leaf past work) i a = absurd a
       go (On leaf) i a = ((facts leaf i.on.stands.0).left, (facts leaf i.on.stands.0).reads)
+      go Done i a = absurd a
+
+  pub loops_valued : IsAtLeaf (run_of stored s path slots p) → HaveLoopValues (run_of stored s path slots p)
+  loops_valued a = go p i a
+    where
+      go : (p : Progress) → IsSound stored s path slots p → IsAtLeaf (run_of stored s path slots p) → HaveLoopValues (run_of stored s path slots p)
+      go Before i a = absurd a
+      go (Resetting leaf past work) i a = absurd a
+      go (On leaf) i a = (facts leaf i.on.stands.0).loops
+      go Done i a = absurd a
+
+  swept_valued : (ds : List Derived) (around : Loops) (pairs : List Pair) (lanes : Option Lanes) → LaneFollows ds around pairs lanes → MatchOption lanes (Unit {0}) (λ l. Follows ds (with_lane lanes around) (renamed pairs) (renamed pairs l.var))
+  swept_valued ds around pairs None h = tt
+  swept_valued ds around pairs (Some lanes) h = h
+
+  pub tests_valued : IsAtLeaf (run_of stored s path slots p) → HaveTestValues (run_of stored s path slots p)
+  tests_valued a = go p i a
+    where
+      go : (p : Progress) → IsSound stored s path slots p → IsAtLeaf (run_of stored s path slots p) → HaveTestValues (run_of stored s path slots p)
+      go Before i a = absurd a
+      go (Resetting leaf past work) i a = absurd a
+      go (On leaf) i a =
+          let f = facts leaf i.on.stands.0 in
+          (f.tested, swept_valued s.derived (among (loops_at s.nest [] leaf)) (pairs_at s.nest leaf) (lanes_at (run_tests stored s) s.nest [] slots leaf) f.swept)
       go Done i a = absurd a
 
   lane_extent : (lanes : Option Lanes) (loop : Option Substituted) (valid : ℕ → Bool) → LaneIs lanes loop valid → option_map (λ (x : Substituted). x.extent) loop ≡ option_map (λ (x : Lanes). x.extent) lanes
@@ -113,10 +138,15 @@ module _ (stored : List StoredTensor) (s : Schedule) (path slots : List ℕ) (p 
           value_there stored s (stored_each stored s i.on.fits) s.derived i.on.lawful.ordered (pairs_at s.nest leaf) slots (among (loops_at s.nest [] leaf)) (node_at s.nest leaf) (lanes_at (run_tests stored s) s.nest [] slots leaf) (facts leaf i.on.stands.0) i.last u o a e
       go Done i a e = absurd a
 
-  -- the values that are kept at a visit of the last leaf
-  pub value_kept : (w : Wheels) (values : List (Option ℕ)) (u : ℕ) → IsKept stored s path slots p w values → p ≡ On w.leaf → tabled values u ≡ inside_in (world_of stored s) s.derived (pairs_at s.nest (standing p)) slots u
-  value_kept w values u k e =
-      k.table e u ∙ ap (λ (l : List Pair). inside_in (world_of stored s) s.derived l slots u) (sym (ap (pairs_at s.nest) (ap standing e ∙ k.wheels.leaf) ∙ last_pairs s.nest))
+  -- the values that are kept at a visit
+  pub value_kept : (w : Wheels) (values : List (Option ℕ)) (u : ℕ) → HasValue (run_of stored s path slots p) u → IsKept stored s path slots p w values → tabled values u ≡ inside_in (world_of stored s) s.derived (pairs_at s.nest (standing p)) slots u
+  value_kept w values u h k = go p h k
+    where
+      go : (p : Progress) → HasValue (run_of stored s path slots p) u → IsKept stored s path slots p w values → tabled values u ≡ inside_in (world_of stored s) s.derived (pairs_at s.nest (standing p)) slots u
+      go Before h k = absurd h
+      go (Resetting leaf past work) h k = absurd h
+      go (On leaf) h k = (k.table leaf refl).has u
+      go Done h k = absurd h
 
   module _ (leaf x u : ℕ) where
     lane_value : (lanes : Option Lanes) (loop : Option Substituted) (b : Substituted) (valid : ℕ → Bool) (o : Option ℕ) → loop ≡ Some b → LaneIs lanes loop valid

@@ -8,7 +8,7 @@ use Rattle.dt_model.specs.declared.stmt.Access.{Access}
 use Rattle.dt_model.specs.declared.stmt.Factor.{Factor}
 use Rattle.dt_model.specs.declared.stmt.Factor.TheVariants.{Read, Literal}
 use Rattle.dt_model.specs.declared.stmt.Stmt.{Stmt}
-use Rattle.dt_nest.specs.Each.{all_flat}
+use Rattle.dt_nest.proofs.Each.{all_flat}
 use Rattle.dt_nest.specs.Tree.{factor_accesses, read_accesses}
 use Rattle.dt_nest.specs.Chain.{IsAccessOf, IsSchedulable}
 

@@ -11,7 +11,7 @@ use Rattle.dt_model.specs.declared.stmt.Stmt.{Stmt}
 use Rattle.dt_model.specs.declared.stmt.Term.{Term}
 use Rattle.dt_nest.specs.declared.loops.Kernel.TheVariants.{Plain}
 use Rattle.dt_nest.specs.Chain.{chain, stmt_schedule}
-use Rattle.dt_nest.specs.Each.{all_flat, all_map}
+use Rattle.dt_nest.proofs.Each.{all_flat, all_map}
 use Rattle.dt_nest.specs.FitsStored.{FitsStored}
 use Rattle.dt_nest.specs.Tree.{Tree, Leaf, accesses_of, factor_accesses, read_accesses}
 use Rattle.dt_nest.specs.World.{FitsWalks}

@@ -1,24 +1,21 @@
 -- Lists with the values of all variables, as they are filled.
-use Rattle.std.proofs.Common.{◌≡◌, ℕ, ◌+◌, ◌*◌, ◌<◌, ◌≤◌, Bool, true, false, ◌&&◌, ◌||◌, List, [], ◌∷◌, length, Option, Some, None, refl, sym, ap, ◌∙◌, subst, arith}
-use Rattle.std.specs.Prelude.{if◌then◌else◌, MatchBool, is_some, nat_eq, nat_lt, slice_index}
-use Rattle.std.specs.Bool.{OnTrue}
-use Rattle.std.specs.List.{AllByRecursion, list_all}
+use Rattle.std.proofs.Common.{◌≡◌, ℕ, ◌+◌, ◌<◌, ◌≤◌, Bool, true, false, ◌||◌, List, [], ◌∷◌, length, Option, Some, refl, sym, ap, ◌∙◌, subst, arith}
+use Rattle.std.specs.Prelude.{if◌then◌else◌, nat_eq, nat_lt, slice_index}
+use Rattle.std.specs.List.{list_all}
 use Rattle.std.proofs.Math.Path.{fun_ext}
 use Rattle.std.proofs.Math.ListN.{set}
 use Rattle.std.proofs.lemmas.Bool.{eqb-true, eq-eqb, ltb-true, ltb-false}
 use Rattle.std.proofs.lemmas.List.{get_or-set_other, get_or-set_same, get_or_past}
 use Rattle.dt_nest.specs.declared.loops.Walk.{Walk}
 use Rattle.dt_nest.specs.declared.loops.Pair.{Pair}
-use Rattle.dt_nest.specs.declared.derivations.Derive.{Derive}
-use Rattle.dt_nest.specs.declared.derivations.Derive.TheVariants.{Split, Quotient, Rest, Rotate, Pos}
 use Rattle.dt_nest.specs.declared.derivations.Derived.{Derived}
 use Rattle.dt_nest.specs.Meaning.{World, Env, renamed}
-use Rattle.dt_nest.specs.Lawful.{is_replaced, is_split}
-use Rattle.dt_nest.specs.Values.{bounded, derived_inside, guard_inside, inside, inside_in, inside_tests, is_below, joined, takes_inside}
-use Rattle.dt_nest.specs.Tables.{tabled, IsSplitVar, IsTable}
+use Rattle.dt_nest.specs.Lawful.{is_replaced}
+use Rattle.dt_nest.specs.Values.{derived_inside, guard_inside, inside, inside_in, inside_tests, is_below, takes_inside}
+use Rattle.dt_nest.specs.Tables.{tabled, IsTable}
 
 -- a number that is another one, or not
-by_number : (u v : ℕ) (P : Type 0) → (u ≡ v → P) → (nat_eq u v ≡ false → (u ≡ v → ⊥) → P) → P
+pub by_number : (u v : ℕ) (P : Type 0) → (u ≡ v → P) → (nat_eq u v ≡ false → (u ≡ v → ⊥) → P) → P
 by_number u v P f g = go (nat_eq u v) (eqb-true u v) refl
   where
     go : (b : Bool) → (b ≡ true → u ≡ v) → nat_eq u v ≡ b → P
@@ -53,11 +50,6 @@ module _ (slots : List ℕ) (values : List (Option ℕ)) where
       go false p q =
           let r = q refl in let a : length values ≤ v = omega (arith, l, r) in let b : length slots ≤ v = omega (arith, a, e) in
           get_or_past values v (Some 0) a ∙ ap Some (sym (get_or_past slots v 0 b))
-
-  -- one more derived variable has the number in its slot again
-  pub more_derived : (ds rest : List Derived) (d : Derived) → ds ≡ d ∷ rest → d.var < length values → ((u : ℕ) → is_replaced ds u ≡ false → tabled values u ≡ Some (slice_index slots u))
-      → (u : ℕ) → is_replaced rest u ≡ false → tabled (set values d.var (Some (slice_index slots d.var))) u ≡ Some (slice_index slots u)
-  more_derived ds rest d e l h u r = set_slot d.var u l (λ k. h u (ap (λ (l : List Derived). is_replaced l u) e ∙ ap (λ (b : Bool). b || is_replaced rest u) k ∙ r))
 
 module _ (w : World) (name : Env) (slots : List ℕ) where
   -- no derivation
@@ -107,61 +99,6 @@ table_holds w ds slots values guards t = ap (λ (val : ℕ → Option ℕ). list
 pub table_holds_at : (w : World) (ds : List Derived) (pairs : List Pair) (slots : List ℕ) (values : List (Option ℕ)) (guards : List ℕ) → IsTable w ds (renamed pairs) slots values
     → list_all (λ g. is_below (w.extent g) (tabled values (renamed pairs g))) guards ≡ (inside_tests w ds).holds guards pairs slots
 table_holds_at w ds pairs slots values guards t = ap (λ (val : ℕ → Option ℕ). list_all (guard_inside w val) guards) (fun_ext (λ u. t (renamed pairs u)))
-
--- where one more variable has a value, all that had one still have it
-pub set_full : (values : List (Option ℕ)) (v : ℕ) (x : Option ℕ) (full some : Bool) → v < length values → (full && some) ≡ true → some ≡ is_some x → (full ≡ true → (u : ℕ) → is_some (tabled values u) ≡ true)
-    → (u : ℕ) → is_some (tabled (set values v x) u) ≡ true
-set_full values v x true some l e s h u =
-    by_number u v (is_some (tabled (set values v x) u) ≡ true)
-    (λ p. ap (λ (k : ℕ). is_some (tabled (set values v x) k)) p ∙ ap is_some (get_or-set_same values v x (Some 0) l) ∙ sym s ∙ e)
-    (λ k n. ap is_some (get_or-set_other values v u x (Some 0) n) ∙ h refl u)
-set_full values v x false some l e s h u = absurd (cc)
-
--- a value of a variable of a split is below its extent
-split_below : (w : World) (slots : List ℕ) (ds : List Derived) (v : ℕ) → IsSplitVar ds v → is_some (inside_in w ds [] slots v) ≡ true → is_below (w.extent v) (inside_in w ds [] slots v) ≡ true
-unfolding inside
-split_below w slots [] v s e = absurd s
-split_below w slots (d ∷ ds) v s e = go (nat_eq v d.var) (eqb-true v d.var) s e (split_below w slots ds v)
-  where
-    kept : (n : ℕ) (o : Option ℕ) → is_some (bounded n o) ≡ true → is_below n (bounded n o) ≡ true
-    kept n None e = absurd (cc)
-    kept n (Some x) e = at (nat_lt x n) refl e
-      where
-        at : (b : Bool) → nat_lt x n ≡ b → is_some (if b then Some x else None) ≡ true → is_below n (if b then Some x else None) ≡ true
-        at true p e = p
-        at false p e = absurd (cc)
-
-    of_split : (how : Derive) → is_split how ≡ true → is_some (derived_inside w d.var how (inside_in w ds [] slots)) ≡ true → is_below (w.extent d.var) (derived_inside w d.var how (inside_in w ds [] slots)) ≡ true
-    of_split (Split outer inner factor) p e = kept (w.extent d.var) (joined (λ x y. x * factor + y) (inside_in w ds [] slots outer) (inside_in w ds [] slots inner)) e
-    of_split (Quotient fused by) p e = absurd (cc)
-    of_split (Rest fused by) p e = absurd (cc)
-    of_split (Rotate base by extent) p e = absurd (cc)
-    of_split (Pos tensor level base) p e = absurd (cc)
-
-    go : (b : Bool) → (b ≡ true → v ≡ d.var) → MatchBool b (is_split d.how ≡ true) (IsSplitVar ds v) → is_some (if b then derived_inside w d.var d.how (inside_in w ds [] slots) else inside_in w ds [] slots v) ≡ true
-        → (IsSplitVar ds v → is_some (inside_in w ds [] slots v) ≡ true → is_below (w.extent v) (inside_in w ds [] slots v) ≡ true)
-        → is_below (w.extent v) (if b then derived_inside w d.var d.how (inside_in w ds [] slots) else inside_in w ds [] slots v) ≡ true
-    go true p s e h = ap (λ (k : ℕ). is_below (w.extent k) (derived_inside w d.var d.how (inside_in w ds [] slots))) (p refl) ∙ of_split d.how s e
-    go false p s e h = h s e
-
--- the derivation of a variable comes later in the list
-pub split_later : (ds more rest : List Derived) (d : Derived) (v : ℕ) → (IsSplitVar more v → IsSplitVar ds v) → more ≡ d ∷ rest → nat_eq v d.var ≡ false → IsSplitVar rest v → IsSplitVar ds v
-split_later ds more rest d v h e n p =
-    h (subst (λ (l : List Derived). IsSplitVar l v) (sym e) (subst (λ (b : Bool). MatchBool b (is_split d.how ≡ true) (IsSplitVar rest v)) (sym n) p))
-
--- the derivation of a variable is found
-pub split_found : (ds more rest : List Derived) (d : Derived) (v : ℕ) (b : Bool) → (IsSplitVar more v → IsSplitVar ds v) → more ≡ d ∷ rest → nat_eq v d.var ≡ true → b ≡ is_split d.how → OnTrue b (IsSplitVar ds v)
-split_found ds more rest d v true h e n p =
-    h (subst (λ (l : List Derived). IsSplitVar l v) (sym e) (subst (λ (b : Bool). MatchBool b (is_split d.how ≡ true) (IsSplitVar rest v)) (sym n) (sym p)))
-split_found ds more rest d v false h e n p = tt
-
--- where all variables have values, guards that are variables of splits hold
-pub full_holds : (w : World) (ds : List Derived) (slots : List ℕ) (values : List (Option ℕ)) (guards : List ℕ) → IsTable w ds (λ u. u) slots values → AllByRecursion (IsSplitVar ds) guards → ((u : ℕ) → is_some (tabled values u) ≡ true)
-    → (inside_tests w ds).holds guards [] slots ≡ true
-full_holds w ds slots values [] t s f = refl
-full_holds w ds slots values (g ∷ guards) t s f =
-    ap (λ (b : Bool). b && list_all (guard_inside w (inside_in w ds [] slots)) guards) (split_below w slots ds g s.0 (ap is_some (sym (t g)) ∙ f g))
-    ∙ full_holds w ds slots values guards t s.1 f
 
 -- a loop takes its value by a table
 pub table_takes : (w : World) (ds : List Derived) (pairs : List Pair) (slots : List ℕ) (values : List (Option ℕ)) (walk : Option Walk) (v : ℕ) → IsTable w ds (renamed pairs) slots values

@@ -3,7 +3,7 @@ use Rattle.std.specs.Prelude.{ℕ, ◌-◌, Bool, false, List, ◌∷◌, ◌++�
 use Rattle.dt_nest.specs.declared.loops.Pair.{Pair}
 use Rattle.dt_nest.specs.declared.branches.Substituted.{Substituted}
 use Rattle.dt_nest.specs.Tree.{Tree, Loop, Pre, Leaf, leaf_count, is_kernel_leaf}
-use Rattle.dt_nest.specs.Visits.{LeafNode, Lanes, LeafVisit, Tests, is_valid, valid_values}
+use Rattle.dt_nest.specs.Visits.{LeafNode, Lanes, Scope, LeafVisit, Tests, is_valid, valid_values}
 use Rattle.dt_nest.specs.Odometer.{guards_of, pairs_at}
 
 -- the leaf
@@ -56,6 +56,11 @@ lanes_at t (Pre work more producer consumer) pairs slots leaf =
 lanes_at t (Leaf lhs terms guards kernel) pairs slots leaf = None
 
 -- the visit of the leaf with these values of the loops around
-abbrev pub visit_at : Tests → Tree → List Pair → List ℕ → ℕ → LeafVisit
-visit_at t tree pairs slots leaf =
-    record { leaf = node_at tree leaf; pairs = pairs ++ pairs_at tree leaf; slots = slots; lanes = lanes_at t tree pairs slots leaf }
+abbrev pub visit_at : Tests → Tree → Scope → List ℕ → ℕ → LeafVisit
+visit_at t tree scope slots leaf = record {
+  leaf = node_at tree leaf;
+  around = loops_at tree scope.around leaf;
+  pairs = scope.pairs ++ pairs_at tree leaf;
+  slots = slots;
+  lanes = lanes_at t tree scope.pairs slots leaf;
+}

@@ -1,13 +1,10 @@
 -- Stored tensors that fit a schedule, whatever their numbers are.
 use Rattle.std.specs.Prelude.{◌≡◌, List, length}
 use Rattle.std.specs.List.{AllByRecursion}
-use Rattle.std.proofs.Common.{◌∙◌}
-use Rattle.dt_model.specs.WholeTensor.{WholeTensor}
 use Rattle.dt_model.specs.Positions.{StoredTensor, IsStored}
 use Rattle.dt_nest.specs.Tree.{accesses_of}
 use Rattle.dt_nest.specs.Schedule.{Schedule}
-use Rattle.dt_nest.specs.World.{FitsAccess, FitsWalks, FitsDerive, Fits}
-use Rattle.dt_nest.specs.Inside.{length_shapes}
+use Rattle.dt_nest.specs.World.{FitsAccess, FitsWalks, FitsDerive}
 
 -- There is one stored tensor for each name, with the extents where it is accessed, and as many positions as a loop over
 -- them has values.
@@ -17,13 +14,3 @@ pub record FitsStored (stored : List StoredTensor) (s : Schedule) : Type 0 where
   pub accesses : AllByRecursion (λ a. FitsAccess stored s a.tensor a.vars) (accesses_of s.nest)
   pub walks : FitsWalks stored s s.nest
   pub positions : AllByRecursion (λ d. FitsDerive stored s d.var d.how) s.derived
-
--- what tensors that fit store fits
-pub fits_stored : (stored : List StoredTensor) (tensors : List WholeTensor) (s : Schedule) → Fits stored tensors s → FitsStored stored s
-fits_stored stored tensors s f = record {
-  count = length_shapes stored tensors f.shapes ∙ f.count;
-  levels = f.levels;
-  accesses = f.accesses;
-  walks = f.walks;
-  positions = f.positions;
-}

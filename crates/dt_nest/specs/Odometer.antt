@@ -6,7 +6,7 @@ use Rattle.dt_nest.specs.declared.loops.Walk.{Walk}
 use Rattle.dt_nest.specs.declared.loops.Pair.{Pair}
 use Rattle.dt_nest.specs.declared.odometer.Stand.{Stand}
 use Rattle.dt_nest.specs.Tree.{Tree, Loop, Pre, Leaf, leaf_count, is_kernel_leaf}
-use Rattle.dt_nest.specs.Visits.{Lanes, Item, IsReset, IsVisit, Tests, valid_values, tree_visits}
+use Rattle.dt_nest.specs.Visits.{Lanes, Scope, scoped, entered, in_producer, Item, IsReset, IsVisit, Tests, valid_values, tree_visits}
 
 -- the slots with those of the tree's loops at 0
 abbrev pub cleared : Tree → List ℕ → List ℕ
@@ -53,11 +53,11 @@ works_at (Pre work more producer consumer) leaf =
 works_at (Leaf lhs terms guards kernel) leaf = []
 
 -- the visit of a leaf, in a substituted loop or not
-abbrev pub leaf_item : Tests → Tree → List Pair → List ℕ → Option Lanes → Item
-leaf_item t (Loop v n walk body) pairs slots lanes = IsReset 0
-leaf_item t (Pre work more producer consumer) pairs slots lanes = IsReset 0
-leaf_item t (Leaf lhs terms guards kernel) pairs slots lanes =
-    IsVisit (record { leaf = record { lhs = lhs; terms = terms; guards = guards; kernel = kernel }; pairs = pairs; slots = slots; lanes = lanes })
+abbrev pub leaf_item : Tests → Tree → Scope → List ℕ → Option Lanes → Item
+leaf_item t (Loop v n walk body) scope slots lanes = IsReset 0
+leaf_item t (Pre work more producer consumer) scope slots lanes = IsReset 0
+leaf_item t (Leaf lhs terms guards kernel) scope slots lanes =
+    IsVisit (record { leaf = record { lhs = lhs; terms = terms; guards = guards; kernel = kernel }; around = scope.around; pairs = scope.pairs; slots = slots; lanes = lanes })
 
 -- the guards of a leaf
 abbrev pub guards_of : Tree → List ℕ
@@ -66,19 +66,19 @@ guards_of (Pre work more producer consumer) = []
 guards_of (Leaf lhs terms guards kernel) = guards
 
 -- the visit where the run stands
-abbrev pub item_at : Tests → Tree → List Pair → List ℕ → ℕ → Item
-item_at t (Loop v n walk body) pairs slots leaf =
-    if is_kernel_leaf body then leaf_item t body pairs slots (Some (record { var = v; extent = n; valid = valid_values t walk v n (guards_of body) pairs slots }))
-    else item_at t body pairs slots leaf
-item_at t (Pre work more producer consumer) pairs slots leaf =
-    if nat_lt leaf (leaf_count producer) then item_at t producer (pairs ++ more) slots leaf else item_at t consumer pairs slots (leaf - leaf_count producer)
-item_at t (Leaf lhs terms guards kernel) pairs slots leaf =
-    IsVisit (record { leaf = record { lhs = lhs; terms = terms; guards = guards; kernel = kernel }; pairs = pairs; slots = slots; lanes = None })
+abbrev pub item_at : Tests → Tree → Scope → List ℕ → ℕ → Item
+item_at t (Loop v n walk body) scope slots leaf =
+    if is_kernel_leaf body then leaf_item t body scope slots (Some (record { var = v; extent = n; valid = valid_values t walk v n (guards_of body) scope.pairs slots }))
+    else item_at t body (entered scope v) slots leaf
+item_at t (Pre work more producer consumer) scope slots leaf =
+    if nat_lt leaf (leaf_count producer) then item_at t producer (in_producer scope more) slots leaf else item_at t consumer scope slots (leaf - leaf_count producer)
+item_at t (Leaf lhs terms guards kernel) scope slots leaf =
+    IsVisit (record { leaf = record { lhs = lhs; terms = terms; guards = guards; kernel = kernel }; around = scope.around; pairs = scope.pairs; slots = slots; lanes = None })
 
 -- the items of a loop's body at one value
-abbrev pub step_of : Tests → Option Walk → ℕ → Tree → List Pair → List ℕ → List ℕ → ℕ → List Item
-step_of t walk v body pairs base path i =
-    if t.takes walk v pairs (slice_set base v i) then tree_visits t body pairs (slice_set base v i) path else []
+abbrev pub step_of : Tests → Option Walk → ℕ → Tree → Scope → List ℕ → List ℕ → ℕ → List Item
+step_of t walk v body scope base path i =
+    if t.takes walk v scope.pairs (slice_set base v i) then tree_visits t body (entered scope v) (slice_set base v i) path else []
 
 -- the end of the values that a loop goes through from x on
 abbrev pub end_on : List ℕ → ℕ → ℕ → ℕ
@@ -86,15 +86,15 @@ end_on [] n x = n
 end_on (y ∷ path) n x = x + 1
 
 -- the items after the visit where the run stands
-abbrev pub after : Tests → Tree → List Pair → List ℕ → List ℕ → ℕ → List Item
-after t (Loop v n walk body) pairs slots path leaf =
+abbrev pub after : Tests → Tree → Scope → List ℕ → List ℕ → ℕ → List Item
+after t (Loop v n walk body) scope slots path leaf =
     if is_kernel_leaf body then []
-    else after t body pairs slots (drop 1 path) leaf
-    ++ flat_map (step_of t walk v body pairs (cleared body slots) (drop 1 path)) (range_with_len (slice_index slots v + 1) (end_on path n (slice_index slots v) - (slice_index slots v + 1)))
-after t (Pre work more producer consumer) pairs slots path leaf =
-    if nat_lt leaf (leaf_count producer) then after t producer (pairs ++ more) slots [] leaf ++ tree_visits t consumer pairs (cleared producer slots) []
-    else after t consumer pairs slots [] (leaf - leaf_count producer)
-after t (Leaf lhs terms guards kernel) pairs slots path leaf = []
+    else after t body (entered scope v) slots (drop 1 path) leaf
+    ++ flat_map (step_of t walk v body scope (cleared body slots) (drop 1 path)) (range_with_len (slice_index slots v + 1) (end_on path n (slice_index slots v) - (slice_index slots v + 1)))
+after t (Pre work more producer consumer) scope slots path leaf =
+    if nat_lt leaf (leaf_count producer) then after t producer (in_producer scope more) slots [] leaf ++ tree_visits t consumer scope (cleared producer slots) []
+    else after t consumer scope slots [] (leaf - leaf_count producer)
+after t (Leaf lhs terms guards kernel) scope slots path leaf = []
 
 -- the slots of the loops around the leaf are below the extents, the others are 0
 abbrev pub IsAt : Tree → List ℕ → ℕ → Type 0
@@ -106,24 +106,26 @@ IsAt (Leaf lhs terms guards kernel) slots leaf = leaf ≡ 0
 
 -- A run has come to a visit: before it stand the resets of the workspaces around its leaf but the first, which were reset
 -- before, and then come the items after it.
-pub record Reaches (t : Tests) (tree : Tree) (pairs : List Pair) (path : List ℕ) (list : List Item) (slots : List ℕ) (leaf past : ℕ) : Type 0 where
-  pub items : list ≡ map IsReset (drop past (works_at tree leaf)) ++ item_at t tree pairs slots leaf ∷ after t tree pairs slots path leaf
+pub record Reaches (t : Tests) (tree : Tree) (scope : Scope) (path : List ℕ) (list : List Item) (slots : List ℕ) (leaf past : ℕ) : Type 0 where
+  pub items : list ≡ map IsReset (drop past (works_at tree leaf)) ++ item_at t tree scope slots leaf ∷ after t tree scope slots path leaf
   pub stands : IsAt tree slots leaf
   pub exists : leaf < leaf_count tree
   pub resets : past ≤ length (works_at tree leaf)
 
 -- what a search for the first visit of a tree found
 abbrev pub FirstIs : Tests → Tree → List Pair → List ℕ → List ℕ → List ℕ → Option ℕ → Type 0
-FirstIs t tree pairs path old new None = (tree_visits t tree pairs old path ≡ []) × (new ≡ old)
-FirstIs t tree pairs path old new (Some leaf) = Reaches t tree pairs path (tree_visits t tree pairs old path) new leaf 0 × (cleared tree new ≡ old)
+FirstIs t tree pairs path old new None = ((around : List ℕ) → tree_visits t tree (scoped pairs around) old path ≡ []) × (new ≡ old)
+FirstIs t tree pairs path old new (Some leaf) =
+    ((around : List ℕ) → Reaches t tree (scoped pairs around) path (tree_visits t tree (scoped pairs around) old path) new leaf 0) × (cleared tree new ≡ old)
 
--- The search came to the first visit of a tree, or there is none and the slots are as they were.
+-- The search came to the first visit of a tree, or there is none and the slots are as they were, whatever loops are around.
 pub record Finds (t : Tests) (tree : Tree) (pairs : List Pair) (path old new : List ℕ) (found : Option ℕ) : Type 0 where
   pub goes : FirstIs t tree pairs path old new found
 
 -- what a search below one value of a loop found
 abbrev pub EntryIs : Tests → Option Walk → ℕ → Tree → List Pair → List ℕ → List ℕ → List ℕ → Option ℕ → Type 0
-EntryIs t walk v body pairs path old new None = ((if t.takes walk v pairs old then tree_visits t body pairs old path else []) ≡ []) × (new ≡ old)
+EntryIs t walk v body pairs path old new None =
+    ((around : List ℕ) → (if t.takes walk v pairs old then tree_visits t body (scoped pairs around) old path else []) ≡ []) × (new ≡ old)
 EntryIs t walk v body pairs path old new (Some leaf) = (t.takes walk v pairs old ≡ true) × Finds t body pairs path old new (Some leaf)
 
 -- The search came to the first visit below one value of a loop, or there is none and the slots are as they were.
@@ -131,10 +133,10 @@ pub record Enters (t : Tests) (walk : Option Walk) (v : ℕ) (body : Tree) (pair
   pub goes : EntryIs t walk v body pairs path old new found
 
 -- A run over a loop's values from one number up to another has come to a visit.
-pub record ReachesFrom (t : Tests) (walk : Option Walk) (v : ℕ) (body : Tree) (pairs : List Pair) (path : List ℕ) (from to : ℕ) (old new : List ℕ) (leaf : ℕ) : Type 0 where
-  pub items : flat_map (step_of t walk v body pairs old path) (range_with_len from (to - from))
+pub record ReachesFrom (t : Tests) (walk : Option Walk) (v : ℕ) (body : Tree) (scope : Scope) (path : List ℕ) (from to : ℕ) (old new : List ℕ) (leaf : ℕ) : Type 0 where
+  pub items : flat_map (step_of t walk v body scope old path) (range_with_len from (to - from))
       ≡ map IsReset (works_at body leaf)
-      ++ item_at t body pairs new leaf ∷ (after t body pairs new path leaf ++ flat_map (step_of t walk v body pairs (cleared body new) path) (range_with_len (slice_index new v + 1) (to - (slice_index new v + 1))))
+      ++ item_at t body (entered scope v) new leaf ∷ (after t body (entered scope v) new path leaf ++ flat_map (step_of t walk v body scope (cleared body new) path) (range_with_len (slice_index new v + 1) (to - (slice_index new v + 1))))
   pub begins : from ≤ slice_index new v
   pub ends : slice_index new v < to
   pub stands : IsAt body new leaf
@@ -143,8 +145,9 @@ pub record ReachesFrom (t : Tests) (walk : Option Walk) (v : ℕ) (body : Tree) 
 
 -- what a search over a loop's values found
 abbrev pub FirstFromIs : Tests → Option Walk → ℕ → Tree → List Pair → List ℕ → ℕ → ℕ → List ℕ → List ℕ → Option ℕ → Type 0
-FirstFromIs t walk v body pairs path from to old new None = (flat_map (step_of t walk v body pairs old path) (range_with_len from (to - from)) ≡ []) × (new ≡ old)
-FirstFromIs t walk v body pairs path from to old new (Some leaf) = ReachesFrom t walk v body pairs path from to old new leaf
+FirstFromIs t walk v body pairs path from to old new None =
+    ((around : List ℕ) → flat_map (step_of t walk v body (scoped pairs around) old path) (range_with_len from (to - from)) ≡ []) × (new ≡ old)
+FirstFromIs t walk v body pairs path from to old new (Some leaf) = (around : List ℕ) → ReachesFrom t walk v body (scoped pairs around) path from to old new leaf
 
 -- The search came to the first visit of a loop's values from one number up to another, or there is none.
 pub record FindsFrom (t : Tests) (walk : Option Walk) (v : ℕ) (body : Tree) (pairs : List Pair) (path : List ℕ) (from to : ℕ) (old new : List ℕ) (found : Option ℕ) : Type 0 where
@@ -152,8 +155,9 @@ pub record FindsFrom (t : Tests) (walk : Option Walk) (v : ℕ) (body : Tree) (p
 
 -- where a search for the next visit came
 abbrev pub NextIs : Tests → Tree → List Pair → List ℕ → ℕ → List ℕ → List ℕ → Option Stand → Type 0
-NextIs t tree pairs path leaf old new None = (after t tree pairs old path leaf ≡ []) × (new ≡ cleared tree old)
-NextIs t tree pairs path leaf old new (Some at) = Reaches t tree pairs path (after t tree pairs old path leaf) new at.leaf at.past × (cleared tree new ≡ cleared tree old)
+NextIs t tree pairs path leaf old new None = ((around : List ℕ) → after t tree (scoped pairs around) old path leaf ≡ []) × (new ≡ cleared tree old)
+NextIs t tree pairs path leaf old new (Some at) =
+    ((around : List ℕ) → Reaches t tree (scoped pairs around) path (after t tree (scoped pairs around) old path leaf) new at.leaf at.past) × (cleared tree new ≡ cleared tree old)
 
 -- From the visit where it stood, the search came to the next one, or there is none and the slots are at 0.
 pub record Steps (t : Tests) (tree : Tree) (pairs : List Pair) (path : List ℕ) (leaf : ℕ) (old new : List ℕ) (found : Option Stand) : Type 0 where

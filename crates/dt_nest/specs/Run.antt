@@ -1,7 +1,8 @@
 -- A run over the visits of a schedule: the last item that it gave, and the items that it has left.
-use Rattle.std.specs.Prelude.{◌≡◌, ◌⊎◌, ℕ, ◌+◌, ◌<◌, ◌≤◌, Bool, true, false, List, [], ◌∷◌, ◌++◌, length, map, filter, drop, Option, Some, None, MatchOption, option_map, nat_eq, slice_set}
+use Rattle.std.specs.Prelude.{◌≡◌, ℕ, ◌+◌, ◌<◌, ◌≤◌, Bool, true, List, [], ◌∷◌, ◌++◌, length, map, filter, drop, Option, Some, None, MatchOption, option_map, nat_eq, slice_set}
 use Rattle.std.specs.List.{AllByRecursion, list_any, range_with_len}
 use Rattle.dt_model.specs.Positions.{StoredTensor}
+use Rattle.dt_nest.specs.declared.derivations.Derived.{Derived}
 use Rattle.dt_nest.specs.declared.loops.Pair.{Pair}
 use Rattle.dt_nest.specs.declared.progress.Visit.{Visit}
 use Rattle.dt_nest.specs.declared.progress.Visit.TheVariants as v
@@ -14,25 +15,23 @@ use Rattle.dt_nest.specs.World.{world_of}
 use Rattle.dt_nest.specs.Lawful.{Loops, also, Follows, IsLawful}
 use Rattle.dt_nest.specs.Values.{inside_tests}
 use Rattle.dt_nest.specs.FitsStored.{FitsStored}
-use Rattle.dt_nest.specs.Visits.{LeafNode, Lanes, LeafVisit, Item, IsReset, IsVisit, Tests, value_in, tree_visits, visits_of, IsPath}
+use Rattle.dt_nest.specs.Visits.{LeafNode, Lanes, at_root, LeafVisit, Item, IsReset, IsVisit, Tests, value_in, tree_visits, visits_of, IsPath}
 use Rattle.dt_nest.specs.Odometer.{AreZero, IsAt, works_at, item_at, after}
-use Rattle.dt_nest.specs.Branch.{leaf_tree, loops_at, visit_at}
+use Rattle.dt_nest.specs.Branch.{leaf_tree, visit_at, loops_at}
 use Rattle.dt_nest.specs.Tables.{IsTable}
 use Rattle.dt_nest.specs.Wheels.{AreWheels, turned}
 use Rattle.dt_nest.specs.declared.wheels.Wheels.{Wheels}
 
--- A run: the schedule, the stored tensors, the last item, the loops around its leaf but a substituted one, and the items
--- that are left.
+-- A run: the schedule, the stored tensors, the last item, and the items that are left.
 pub record Run : Type 0 where
   pub sched : Schedule
   pub stored : List StoredTensor
   pub last : Option Item
-  pub around : List ℕ
   pub left : List Item
 
 -- the run before its first item
 abbrev pub run_over : List StoredTensor → Schedule → List ℕ → Run
-run_over stored s path = record { sched = s; stored = stored; last = None; around = []; left = visits_of stored s path }
+run_over stored s path = record { sched = s; stored = stored; last = None; left = visits_of stored s path }
 
 -- the answer that an item is
 abbrev pub answer_of : Item → Visit
@@ -72,14 +71,21 @@ abbrev pub with_lane : Option Lanes → Loops → Loops
 with_lane None around = around
 with_lane (Some lanes) around = also around lanes.var
 
+-- the variable follows from the loops that are entered at a visit
+abbrev pub FollowsAt : List Derived → LeafVisit → ℕ → Type 0
+FollowsAt ds visit u = Follows ds (among visit.around) (renamed visit.pairs) (renamed visit.pairs u)
+
+-- it follows from them and the substituted loop
+abbrev pub FollowsInLane : List Derived → LeafVisit → ℕ → Type 0
+FollowsInLane ds visit u = Follows ds (with_lane visit.lanes (among visit.around)) (renamed visit.pairs) (renamed visit.pairs u)
+
 -- the variable has a value at the last visit, whatever value a substituted loop has
 abbrev pub HasValue : Run → ℕ → Type 0
-HasValue r u = OnVisit r.last (λ visit. Follows r.sched.derived (among r.around) (renamed visit.pairs) (renamed visit.pairs u))
+HasValue r u = OnVisit r.last (λ visit. FollowsAt r.sched.derived visit u)
 
 -- the variable has a value at the last visit, where the substituted loop has one
 abbrev pub HasLaneValue : Run → ℕ → Type 0
-HasLaneValue r u =
-    OnVisit r.last (λ visit. Follows r.sched.derived (with_lane visit.lanes (among r.around)) (renamed visit.pairs) (renamed visit.pairs u))
+HasLaneValue r u = OnVisit r.last (λ visit. FollowsInLane r.sched.derived visit u)
 
 -- a number that the variable has at the last visit
 abbrev pub IsValue : Run → ℕ → ℕ → Type 0
@@ -102,6 +108,15 @@ IsLeafOf r tree = OnVisit r.last (λ visit. tree ≡ leaf_tree visit.leaf)
 abbrev pub AreValued : Run → Type 0
 AreValued r = OnVisit r.last (λ visit. AllByRecursion (HasValue r) visit.leaf.lhs.vars × AllByRecursion (λ a. AllByRecursion (HasLaneValue r) a.vars) (read_accesses visit.leaf.terms))
 
+-- the loops that are entered have values
+abbrev pub HaveLoopValues : Run → Type 0
+HaveLoopValues r = OnVisit r.last (λ visit. (v : ℕ) → among visit.around v ≡ true → HasValue r v)
+
+-- the variables of the leaf's guards have values with the substituted loop, and so has that loop
+abbrev pub HaveTestValues : Run → Type 0
+HaveTestValues r =
+    OnVisit r.last (λ visit. AllByRecursion (HasLaneValue r) visit.leaf.guards × MatchOption visit.lanes (Unit {0}) (λ lanes. HasLaneValue r lanes.var))
+
 -- the extent of the substituted loop, where there is one
 abbrev pub IsExtent : Run → Option ℕ → Type 0
 IsExtent r n = OnVisit r.last (λ visit. n ≡ option_map (λ lanes. lanes.extent) visit.lanes)
@@ -119,24 +134,17 @@ run_tests stored s = inside_tests (world_of stored s) s.derived
 
 -- the items that are left where a run stands
 abbrev pub left_of : Tests → Tree → List ℕ → List ℕ → Progress → List Item
-left_of t tree path slots Before = tree_visits t tree [] slots path
-left_of t tree path slots (Resetting leaf past work) = map IsReset (drop past (works_at tree leaf)) ++ item_at t tree [] slots leaf ∷ after t tree [] slots path leaf
-left_of t tree path slots (On leaf) = after t tree [] slots path leaf
+left_of t tree path slots Before = tree_visits t tree at_root slots path
+left_of t tree path slots (Resetting leaf past work) = map IsReset (drop past (works_at tree leaf)) ++ item_at t tree at_root slots leaf ∷ after t tree at_root slots path leaf
+left_of t tree path slots (On leaf) = after t tree at_root slots path leaf
 left_of t tree path slots Done = []
 
 -- the last item
 abbrev pub last_of : Tests → Tree → List ℕ → Progress → Option Item
 last_of t tree slots Before = None
 last_of t tree slots (Resetting leaf past work) = Some (IsReset work)
-last_of t tree slots (On leaf) = Some (IsVisit (visit_at t tree [] slots leaf))
+last_of t tree slots (On leaf) = Some (IsVisit (visit_at t tree at_root slots leaf))
 last_of t tree slots Done = None
-
--- the loops around the last visit's leaf
-abbrev pub around_of : Tree → Progress → List ℕ
-around_of tree Before = []
-around_of tree (Resetting leaf past work) = []
-around_of tree (On leaf) = loops_at tree [] leaf
-around_of tree Done = []
 
 -- the run that stands here
 abbrev pub run_of : List StoredTensor → Schedule → List ℕ → List ℕ → Progress → Run
@@ -144,7 +152,6 @@ run_of stored s path slots p = record {
   sched = s;
   stored = stored;
   last = last_of (run_tests stored s) s.nest slots p;
-  around = around_of s.nest p;
   left = left_of (run_tests stored s) s.nest path slots p;
 }
 
@@ -191,23 +198,11 @@ pub record IsSound (stored : List StoredTensor) (s : Schedule) (path slots : Lis
   pub on : CanGoOn stored s path slots p
   pub last : LastHolds (run_tests stored s) (last_of (run_tests stored s) s.nest slots p)
 
--- What is kept beside a run: the wheels, the guards and the number of the last leaf, and at its visits the values of all
--- variables.
-pub record IsKept (stored : List StoredTensor) (s : Schedule) (path slots : List ℕ) (p : Progress) (w : Wheels) (values : List (Option ℕ)) : Type 0 where
-  pub wheels : AreWheels s path w
-  pub room : length values ≡ length s.names
-  pub table : p ≡ On w.leaf → IsTable (world_of stored s) s.derived (λ u. u) slots values
-
--- what a step of the wheels came to: a visit, or none where a wheel went on or none can
-abbrev pub StepIs : Tests → Wheels → List ℕ → List ℕ → Bool → Type 0
-StepIs t w old new true = (turned w.items.items old ≡ Some new) × (t.holds w.guards.items [] new ≡ true)
-StepIs t w old new false = (new ≡ old) ⊎ ((turned w.items.items old ≡ Some new) × (t.holds w.guards.items [] new ≡ false))
-
 -- where a run came from one place: the item that it gave, and what is left
 abbrev pub Moves : Tests → Tree → List ℕ → List Item → List ℕ → Progress → Type 0
 Moves t tree path left slots Before = ⊥
 Moves t tree path left slots (Resetting leaf past work) = left ≡ IsReset work ∷ left_of t tree path slots (Resetting leaf past work)
-Moves t tree path left slots (On leaf) = left ≡ IsVisit (visit_at t tree [] slots leaf) ∷ after t tree [] slots path leaf
+Moves t tree path left slots (On leaf) = left ≡ IsVisit (visit_at t tree at_root slots leaf) ∷ after t tree at_root slots path leaf
 Moves t tree path left slots Done = left ≡ []
 
 -- the place after a leaf was reached, where so many workspaces around it were reset

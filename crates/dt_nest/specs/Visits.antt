@@ -28,10 +28,33 @@ pub record Lanes : Type 0 where
   pub extent : ℕ
   pub valid : List ℕ
 
--- A visit of a leaf: the renamings in force, outermost first, one slot per name of a loop or variable, 0 where no loop
--- of that name is entered, and the substituted loop, if there is one.
+-- the renamings in force at a tree, outermost first, and the loops that are entered there, innermost first
+pub record Scope : Type 0 where
+  pub pairs : List Pair
+  pub around : List ℕ
+
+-- these renamings and loops
+abbrev pub scoped : List Pair → List ℕ → Scope
+scoped pairs around = record { pairs = pairs; around = around }
+
+-- the scope of a whole nest
+abbrev pub at_root : Scope
+at_root = scoped [] []
+
+-- the scope of a loop's body
+abbrev pub entered : Scope → ℕ → Scope
+entered scope v = scoped scope.pairs (v ∷ scope.around)
+
+-- the scope of a producer with more renamings
+abbrev pub in_producer : Scope → List Pair → Scope
+in_producer scope more = scoped (scope.pairs ++ more) scope.around
+
+-- A visit of a leaf: the loops that are entered, innermost first, without a substituted one, the renamings in force,
+-- outermost first, one slot per name of a loop or variable, which has the value of a loop that is entered, and the
+-- substituted loop, if there is one.
 pub record LeafVisit : Type 0 where
   pub leaf : LeafNode
+  pub around : List ℕ
   pub pairs : List Pair
   pub slots : List ℕ
   pub lanes : Option Lanes
@@ -69,10 +92,10 @@ values_on [] n = range_with_len 0 n
 values_on (x ∷ path) n = x ∷ []
 
 -- one visit of a leaf in a substituted loop, if the loop has a valid value
-abbrev pub lane_visit : LeafNode → List Pair → List ℕ → ℕ → ℕ → List ℕ → List Item
-lane_visit leaf pairs slots v n [] = []
-lane_visit leaf pairs slots v n (x ∷ valid) =
-    IsVisit (record { leaf = leaf; pairs = pairs; slots = slots; lanes = Some (record { var = v; extent = n; valid = x ∷ valid }) }) ∷ []
+abbrev pub lane_visit : LeafNode → Scope → List ℕ → ℕ → ℕ → List ℕ → List Item
+lane_visit leaf scope slots v n [] = []
+lane_visit leaf scope slots v n (x ∷ valid) =
+    IsVisit (record { leaf = leaf; around = scope.around; pairs = scope.pairs; slots = slots; lanes = Some (record { var = v; extent = n; valid = x ∷ valid }) }) ∷ []
 
 -- whether a substituted loop may have the value x: it takes the value, and the guards of its leaf hold
 abbrev pub is_valid : Tests → Option Walk → ℕ → List ℕ → List Pair → List ℕ → ℕ → Bool
@@ -83,24 +106,24 @@ abbrev pub valid_values : Tests → Option Walk → ℕ → ℕ → List ℕ →
 valid_values t walk v n guards pairs slots = filter (is_valid t walk v guards pairs slots) (range_with_len 0 n)
 
 -- the visit of a substituted loop over a leaf
-abbrev pub substituted_visits : Tests → Option Walk → ℕ → ℕ → Tree → List Pair → List ℕ → List Item
-substituted_visits t walk v n (Loop u m inner body) pairs slots = []
-substituted_visits t walk v n (Pre work more producer consumer) pairs slots = []
-substituted_visits t walk v n (Leaf lhs terms guards kernel) pairs slots =
-    lane_visit (record { lhs = lhs; terms = terms; guards = guards; kernel = kernel }) pairs slots v n (valid_values t walk v n guards pairs slots)
+abbrev pub substituted_visits : Tests → Option Walk → ℕ → ℕ → Tree → Scope → List ℕ → List Item
+substituted_visits t walk v n (Loop u m inner body) scope slots = []
+substituted_visits t walk v n (Pre work more producer consumer) scope slots = []
+substituted_visits t walk v n (Leaf lhs terms guards kernel) scope slots =
+    lane_visit (record { lhs = lhs; terms = terms; guards = guards; kernel = kernel }) scope slots v n (valid_values t walk v n guards scope.pairs slots)
 
 -- The visits of a tree that extend a path, where the slots have the values of the loops around. A loop gives those of its
 -- body for each value that it takes, in ascending order, and a precompute node those of its producer and then those of
 -- its consumer.
-abbrev pub tree_visits : Tests → Tree → List Pair → List ℕ → List ℕ → List Item
-tree_visits t (Loop v n walk body) pairs slots path =
-    if is_kernel_leaf body then substituted_visits t walk v n body pairs slots
-    else flat_map (λ i. if t.takes walk v pairs (slice_set slots v i) then tree_visits t body pairs (slice_set slots v i) (drop 1 path) else []) (values_on path n)
-tree_visits t (Pre work more producer consumer) pairs slots path =
-    with_reset work (tree_visits t producer (pairs ++ more) slots [] ++ tree_visits t consumer pairs slots [])
-tree_visits t (Leaf lhs terms guards kernel) pairs slots path =
-    if t.holds guards pairs slots
-    then IsVisit (record { leaf = record { lhs = lhs; terms = terms; guards = guards; kernel = kernel }; pairs = pairs; slots = slots; lanes = None }) ∷ []
+abbrev pub tree_visits : Tests → Tree → Scope → List ℕ → List ℕ → List Item
+tree_visits t (Loop v n walk body) scope slots path =
+    if is_kernel_leaf body then substituted_visits t walk v n body scope slots
+    else flat_map (λ i. if t.takes walk v scope.pairs (slice_set slots v i) then tree_visits t body (entered scope v) (slice_set slots v i) (drop 1 path) else []) (values_on path n)
+tree_visits t (Pre work more producer consumer) scope slots path =
+    with_reset work (tree_visits t producer (in_producer scope more) slots [] ++ tree_visits t consumer scope slots [])
+tree_visits t (Leaf lhs terms guards kernel) scope slots path =
+    if t.holds guards scope.pairs slots
+    then IsVisit (record { leaf = record { lhs = lhs; terms = terms; guards = guards; kernel = kernel }; around = scope.around; pairs = scope.pairs; slots = slots; lanes = None }) ∷ []
     else []
 
 -- the slots before any loop is entered
@@ -109,7 +132,7 @@ no_slots s = replicate (length s.names) 0
 
 -- the visits of a schedule's nest that extend a path
 unfoldable pub visits_of : List StoredTensor → Schedule → List ℕ → List Item
-visits_of stored s path = tree_visits (tests_of (world_of stored s) s.derived) s.nest [] (no_slots s) path
+visits_of stored s path = tree_visits (tests_of (world_of stored s) s.derived) s.nest at_root (no_slots s) path
 
 -- A path is some values of the outermost loops, each below its extent; none of them is substituted or inside a
 -- precompute node.

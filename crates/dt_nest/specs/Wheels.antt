@@ -1,12 +1,12 @@
 -- The loops just around the last leaf of a nest, which turn as the wheels of an odometer do: at each step the innermost
 -- one that is not at its last value goes on, and those inside it start again.
-use Rattle.std.specs.Prelude.{◌≡◌, ℕ, ◌+◌, ◌-◌, Bool, false, List, [], ◌∷◌, ◌++◌, not, Option, Some, None, option_map, if◌then◌else◌, nat_lt, slice_index, slice_set}
+use Rattle.std.specs.Prelude.{◌≡◌, ℕ, ◌+◌, ◌-◌, ◌<◌, Bool, false, List, [], ◌∷◌, ◌++◌, not, Option, Some, None, option_map, if◌then◌else◌, nat_eq, nat_lt, length, take, slice_index, slice_index_or, slice_set}
 use Rattle.dt_nest.specs.declared.wheels.Wheel.{Wheel}
 use Rattle.dt_nest.specs.declared.wheels.Wheels.{Wheels}
-use Rattle.std.specs.Bool.{OnTrue}
-use Rattle.std.specs.List.{AllByRecursion}
+use Rattle.std.specs.List.{list_any}
+use Rattle.dt_nest.specs.declared.derivations.Derived.{Derived}
 use Rattle.dt_nest.specs.Schedule.{Schedule}
-use Rattle.dt_nest.specs.Tables.{IsSplitVar}
+use Rattle.dt_nest.specs.Tables.{dependents}
 use Rattle.dt_nest.specs.Tree.{Tree, Loop, Pre, Leaf, leaf_count, is_stored_kernel}
 
 -- whether a tree is a leaf in loops that are neither walked nor substituted
@@ -42,10 +42,18 @@ turned (w ∷ ws) slots =
     if nat_lt (slice_index slots w.var) w.last then Some (slice_set slots w.var (slice_index slots w.var + 1))
     else option_map (λ s. slice_set s w.var 0) (turned ws slots)
 
--- the wheels of a schedule's nest, with the guards and the number of its last leaf, and whether each guard is a variable of
--- a split
+-- whether a variable is the loop of a wheel
+abbrev pub is_wheel : List Wheel → ℕ → Bool
+is_wheel wheels u = list_any (λ w. nat_eq u w.var) wheels
+
+-- for each wheel the derivations whose values follow from its loop or from the loops inside it
+abbrev pub AreDependents : List Derived → List Wheel → List (List Derived) → Type 0
+AreDependents ds wheels lists = (k : ℕ) → k < length wheels → slice_index_or lists k [] ≡ dependents ds (is_wheel (take (k + 1) wheels))
+
+-- the wheels of a schedule's nest, with the derivations that follow from them, and the guards and the number of its last leaf
 pub record AreWheels (s : Schedule) (path : List ℕ) (w : Wheels) : Type 0 where
   pub items : w.items.items ≡ last_wheels s.nest path
+  pub count : length w.derived.items ≡ length w.items.items
+  pub derived : AreDependents s.derived w.items.items w.derived.items
   pub guards : w.guards.items ≡ last_guards s.nest
   pub leaf : w.leaf ≡ leaf_count s.nest - 1
-  pub splits : OnTrue w.splits (AllByRecursion (IsSplitVar s.derived) w.guards.items)

@@ -5,8 +5,9 @@ mod against;
 mod branches;
 mod chains;
 mod commands;
+mod communicate_loops;
 mod copies;
-mod cuts;
+mod dependents;
 mod derivations;
 mod knowing;
 mod lanes;
@@ -17,23 +18,36 @@ mod odometer;
 #[cfg(test)]
 mod odometer_tests;
 mod parts;
+mod path_laws;
 mod progress;
+mod questions;
 mod schedules;
 mod stepping;
 mod tables;
 #[cfg(test)]
 mod tests;
 mod values;
+mod visited;
 mod visits;
 mod wheels;
 
 pub use commands::{Rewrite, RewriteEnd, rewritten};
-pub use cuts::{Cut, Head, Heads};
+pub use communicate_loops::communicate_loop;
+pub use copies::{access_copied, names_copied, terms_copied};
 pub use derivations::{Derivations, Derive, Derived};
 pub use laws::{sum_reads_tensors, visits_add_the_sum};
-pub use loops::{Kernel, Nest, Pair, Pairs, Walk};
+pub use loops::{Kernel, Nest, Pair, Pairs, Walk, walk_copied};
 pub use odometer::has_kernel;
 pub use parts::{Moved, MovedList, SchedParts, Work, Works};
+pub use path_laws::{
+    assignments_are_paths, path_sums_follow, path_sums_read_tensors, paths_add_the_sum,
+    paths_are_visited, paths_grow, root_sum, sums_follow_visited, sums_over_paths, task_has_loops,
+    unvisited_adds_nothing, visits_follow_paths, visits_follow_visited, visits_over_paths,
+};
 pub use progress::Visit;
+pub use questions::{
+    accesses_tensor, all_differ, has_loop, in_order, is_among, is_around, is_chain, is_fixed,
+    is_in, loop_count, misplaced,
+};
 pub use schedules::Sched;
 pub use visits::Visits;

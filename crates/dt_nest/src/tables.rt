@@ -1,17 +1,15 @@
 //! The values of all variables at a place, in one list.
 
-ghost use Rattle.std.specs.Prelude.{◌≡◌, ◌<◌, ◌%◌, ◌&&◌, ℕ, Some, is_some, true, false, length, option_map, slice_index};
-ghost use Rattle.std.specs.Bool.{OnTrue};
-ghost use Rattle.std.specs.List.{AllByRecursion};
+ghost use Rattle.std.specs.Prelude.{◌≡◌, ◌<◌, ◌%◌, ℕ, Some, length, option_map, slice_index};
 ghost use Rattle.dt_nest.specs.Schedule.{seen};
 ghost use Rattle.dt_nest.specs.World.{world_of};
-ghost use Rattle.dt_nest.specs.Lawful.{AreNamed, IsBounded, is_replaced};
+ghost use Rattle.dt_nest.specs.Lawful.{AreNamed, IsBounded};
 ghost use Rattle.dt_nest.specs.Values.{derived_inside, sum_inside};
-ghost use Rattle.dt_nest.specs.Tables.{IsTable, tabled};
+ghost use Rattle.dt_nest.specs.Tables.{IsTable, refilled, tabled};
 
 use crate::derivations::{Derive, Derived};
 use crate::knowing::Known;
-use crate::naming::Renaming;
+use crate::naming::{Renaming, Unrenamed};
 use crate::parts::SchedParts;
 use crate::values::{coordinate, quotient, rest_of, split_value};
 use dt_model::Locator;
@@ -121,45 +119,23 @@ fn fill_slots(slots: &[u32], values: &mut [Option<u32>])
     }
 }
 
-/// Gives the derived variables of a table the numbers in their slots again.
-pub fn fill_derived_slots(derived: &[Derived], slots: &[u32], values: &mut [Option<u32>])
-    requires length { length values.old ≡ length slots.now }
-    requires within { AllByRecursion (λ d. d.var < length slots.now) derived.now }
-    requires loops { (u : ℕ) → is_replaced derived.now u ≡ false → tabled values.old u ≡ Some (slice_index slots.now u) }
-    ensures values { (u : ℕ) → tabled values.new u ≡ Some (slice_index slots.now u) }
-    ensures length { length values.new ≡ length values.old }
-{
-    for d in derived {
-        values[d.var as usize] = Some(slots[d.var as usize]);
-    }
-}
-
-/// Both.
-fn both(a: bool, b: bool) -> bool
-    ensures { result ≡ (a && b) }
-{
-    a && b
-}
-
-/// Gives the derived variables of a table their values, where it has the numbers in the slots, and tells whether each has
-/// one. The last derivation is the first to be done: what a derivation names is replaced by a later one.
-pub fn fill_derived<L: Locator, N: Renaming>(
+/// Gives the derived variables of a table their values, where it has the numbers in the slots. The last derivation is the
+/// first to be done: what a derivation names is replaced by a later one.
+fn fill_derived<L: Locator, N: Renaming>(
     derived: &[Derived],
     parts: &SchedParts,
     loc: &L,
     names: &N,
     slots: &[u32],
     values: &mut [Option<u32>],
-) -> bool
+)
     requires named { AreNamed (seen parts.now) derived.now }
     requires tensors { length (L.tensors loc.now) ≡ length parts.now.tensors }
     requires room { length values.old ≡ length parts.now.names }
     requires values { (u : ℕ) → tabled values.old u ≡ Some (slice_index slots.now u) }
     ensures table { IsTable (world_of (L.tensors loc.now) (seen parts.now)) derived.now (N.names names.now) slots.now values.new }
-    ensures full { OnTrue result ((u : ℕ) → is_some (tabled values.new u) ≡ true) }
     ensures length { length values.new ≡ length values.old }
 {
-    let mut full = true;
     let mut k = derived.len();
     while k > 0 {
         k -= 1;
@@ -167,10 +143,28 @@ pub fn fill_derived<L: Locator, N: Renaming>(
         let at = d.var as usize;
         let known = Table { names, values };
         let value = derived_from(&d.how, d.var, parts, loc, &known);
-        full = both(full, value.is_some());
         values[at] = value;
     }
-    full
+}
+
+/// Makes the values of some derived variables, one after another.
+pub fn refill<L: Locator>(
+    derived: &[Derived],
+    parts: &SchedParts,
+    loc: &L,
+    values: &mut [Option<u32>],
+)
+    requires named { AreNamed (seen parts.now) derived.now }
+    requires tensors { length (L.tensors loc.now) ≡ length parts.now.tensors }
+    requires room { length values.old ≡ length parts.now.names }
+    ensures values { values.new ≡ refilled (world_of (L.tensors loc.now) (seen parts.now)) derived.now values.old }
+    ensures length { length values.new ≡ length values.old }
+{
+    for d in derived {
+        let names = &Unrenamed;
+        let value = derived_from(&d.how, d.var, parts, loc, &Table { names, values });
+        values[d.var as usize] = value;
+    }
 }
 
 /// Makes the values of all variables, from the slots.

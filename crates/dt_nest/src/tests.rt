@@ -2,11 +2,12 @@
 
 ghost use Rattle.std.specs.Prelude.{◌≡◌, ◌≤◌, IfOk, [], ◌∷◌, length};
 
-use crate::commands::{Rewrite, RewriteEnd, rewritten};
+use crate::commands::{Rewrite, rewritten};
 use crate::loops::{Kernel, Nest};
+use crate::parts::SchedParts;
 use crate::schedules::Sched;
 use dt_base::{Extents, Name, Names, NoMemory, Vars};
-use dt_model::{Access, Stmt, Terms};
+use dt_model::{Access, Cause, Stmt, Terms};
 use std::alloc::Global;
 use std::test::Fail;
 
@@ -76,17 +77,23 @@ struct Nothing;
 impl Rewrite for Nothing {
     ghost use Rattle.std.specs.Prelude.{None, refl};
 
-    ghost can_apply = { λ c s. Unit {0} };
+    ghost rule = { λ c. record { can = λ s. Unit {0}; cause = λ s. None; effect = λ s. s; suits = λ stored s. Unit {0}; serves = λ dims. Unit {0} } };
 
-    ghost cause = { λ c s. None };
-
-    ghost effect = { λ c s. s };
-
-    fn apply(self, _alloc: Global, sched: Sched) -> Result<Sched, RewriteEnd> {
-        Ok(sched)
+    fn first_cause(&self, _parts: &SchedParts) -> Option<Cause> {
+        None
     }
 
-    ghost keeps_sum = { λ c s l a e. record { fits = λ stored tensors f. f; sums = λ stored tensors i f. refl } };
+    fn applied(self, _alloc: Global, parts: SchedParts) -> Result<SchedParts, SchedParts> {
+        Ok(parts)
+    }
+
+    ghost keeps = { λ c s l a e. record {
+      lawful = λ few. l;
+      sum = record { fits = λ stored tensors f. f; sums = λ stored tensors i f. refl };
+      accesses = record { tensors = refl; accesses = λ a l. (λ h. h, λ h. h); reads = λ a l. (λ h. h, λ h. h); output = refl; unread = λ u. u };
+      fit = λ stored suits f. f;
+      grid = λ dims serves g. g;
+    } };
 }
 
 #[test]

@@ -4,10 +4,11 @@ ghost use Rattle.std.specs.Prelude.{◌≡◌, ◌<◌, true, IfOk, length, opti
 ghost use Rattle.dt_nest.specs.Tree.{tree_of};
 ghost use Rattle.dt_nest.specs.FitsStored.{FitsStored};
 ghost use Rattle.dt_nest.specs.Visits.{IsPath};
-ghost use Rattle.dt_nest.specs.Run.{AreAscending, AreValued, Goes, HasLaneValue, HasValue, IsAtLeaf, IsExtent, IsLaneValue, IsLeafOf, IsValue, OnLanes, OnVisit, SameNest, answer_of, is_among, run_over};
+ghost use Rattle.dt_nest.specs.Point.{HasValueAt, IsPoint, env_at};
+ghost use Rattle.dt_nest.specs.Run.{AreAscending, AreValued, Goes, HasLaneValue, HasValue, HaveLoopValues, HaveTestValues, IsAtLeaf, IsExtent, IsLaneValue, IsLeafOf, IsValue, OnLanes, OnVisit, SameNest, answer_of, is_among, run_over};
 
 use crate::against::Against;
-use crate::branches::{Substituted, is_valid_at, leaf_of, substituted_of, value_of};
+use crate::branches::{Substituted, is_valid_at, value_of};
 use crate::lanes::{Lane, Slots};
 use crate::loops::Nest;
 use crate::naming::Naming;
@@ -15,6 +16,7 @@ use crate::progress::{Progress, Visit};
 use crate::schedules::Sched;
 use crate::stepping::stepped;
 use crate::tables::tabled;
+use crate::visited::VisitedLeaf;
 use crate::wheels::Wheels;
 use dt_base::NoMemory;
 use dt_model::Locator;
@@ -65,6 +67,7 @@ pub struct Visits<'s, L: Locator> {
     path: Vec<u32>,
     slots: Vec<u32>,
     progress: Progress,
+    leaf: VisitedLeaf<'s>,
     wheels: Wheels,
     values: Vec<Option<u32>>,
 }
@@ -72,7 +75,8 @@ pub struct Visits<'s, L: Locator> {
 impl<'s, L: Locator> Model for Visits<'s, L> {
     ghost use Rattle.std.specs.Coded.{Coded, codes};
     ghost use Rattle.dt_nest.specs.TreeCode.{Node, tree_code};
-    ghost use Rattle.dt_nest.specs.Run.{IsKept, IsSound, Run, run_of};
+    ghost use Rattle.dt_nest.specs.Run.{IsSound, Run, run_of, standing};
+    ghost use Rattle.dt_nest.specs.Visited.{IsKept, IsVisited};
 
     ghost Value = { Run };
 
@@ -80,7 +84,7 @@ impl<'s, L: Locator> Model for Visits<'s, L> {
 
     ghost view = { λ a. run_of (L.tensors a.loc.now) a.sched.now a.path.items a.slots.items a.progress };
 
-    ghost invariant = { λ a. IsSound (L.tensors a.loc.now) a.sched.now a.path.items a.slots.items a.progress × IsKept (L.tensors a.loc.now) a.sched.now a.path.items a.slots.items a.progress a.wheels a.values.items };
+    ghost invariant = { λ a. IsSound (L.tensors a.loc.now) a.sched.now a.path.items a.slots.items a.progress × IsKept (L.tensors a.loc.now) a.sched.now a.path.items a.slots.items a.progress a.wheels a.values.items × IsVisited a.sched.now.nest (standing a.progress) a.leaf };
 }
 
 impl<'s, L: Locator> Visits<'s, L> {
@@ -97,6 +101,7 @@ impl<'s, L: Locator> Visits<'s, L> {
     {
         let parts = sched.parts();
         let names = parts.names.as_slice().len();
+        let leaf = VisitedLeaf::of(&parts.nest, 0);
         let wheels = Wheels::of(alloc, parts, path)?;
         let slots = zeros(alloc, names)?;
         let values = no_values(alloc, names)?;
@@ -107,6 +112,7 @@ impl<'s, L: Locator> Visits<'s, L> {
             path,
             slots,
             progress: Progress::Before,
+            leaf,
             wheels,
             values,
         })
@@ -122,7 +128,7 @@ impl<'s, L: Locator> Visits<'s, L> {
             parts: sched.parts(),
             loc: self.loc,
         };
-        self.progress = stepped(
+        let progress = stepped(
             &against,
             self.path.as_slice(),
             &self.wheels,
@@ -130,7 +136,11 @@ impl<'s, L: Locator> Visits<'s, L> {
             self.slots.as_mut_slice(),
             self.values.as_mut_slice(),
         );
-        self.progress.answer()
+        self.leaf = self
+            .leaf
+            .next(&against.parts.nest, self.progress.leaf(), progress.leaf());
+        self.progress = progress;
+        progress.answer()
     }
 
     /// The last answer of `next`, and none before the first.
@@ -140,14 +150,28 @@ impl<'s, L: Locator> Visits<'s, L> {
         self.progress.answer()
     }
 
+    /// The value of a variable at a point of the last visit: the visit itself, or a valid value of its substituted loop.
+    pub fn value_at(&self, lane: Option<u32>, var: u32) -> u64
+        requires point { IsPoint self.now lane }
+        requires valued { HasValueAt self.now lane var }
+        ensures value { result ≡ env_at self.now lane var }
+        ensures below { result < slice_index self.now.sched.extents var }
+    {
+        match lane {
+            None => self.eval(var),
+            Some(x) => self.eval_lane(x, var),
+        }
+    }
+
     /// The leaf of the last visit.
     pub fn leaf(&self) -> &Nest
         requires { IsAtLeaf self.now }
         ensures leaf { IsLeafOf self.now (tree_of result.now) }
         ensures valued { AreValued self.now }
+        ensures loops { HaveLoopValues self.now }
+        ensures tests { HaveTestValues self.now }
     {
-        let sched = self.sched;
-        leaf_of(&sched.parts().nest, self.progress.leaf())
+        self.leaf.nest
     }
 
     /// The extent of the last visit's substituted loop, and none where its leaf isn't substituted.
@@ -156,8 +180,7 @@ impl<'s, L: Locator> Visits<'s, L> {
         ensures extent { IsExtent self.now result }
         ensures ascending { OnVisit self.now.last (λ visit. AreAscending visit.lanes) }
     {
-        let sched = self.sched;
-        extent_of(substituted_of(&sched.parts().nest, self.progress.leaf()))
+        extent_of(self.leaf.substituted)
     }
 
     /// Whether a number below the extent is a valid value of the last visit's substituted loop.
@@ -186,18 +209,7 @@ impl<'s, L: Locator> Visits<'s, L> {
         ensures value { IsValue self.now var result }
         ensures below { result < slice_index self.now.sched.extents var }
     {
-        if self.progress.is_on(self.wheels.leaf) {
-            return number_of(tabled(self.values.as_slice(), var));
-        }
-        let sched = self.sched;
-        let against = Against {
-            parts: sched.parts(),
-            loc: self.loc,
-        };
-        let slots = Slots::of(self.slots.as_slice());
-        let nest = &against.parts.nest;
-        let leaf = self.progress.leaf();
-        number_of(value_of(nest, &Naming::Root, &against, &slots, leaf, var))
+        number_of(tabled(self.values.as_slice(), var))
     }
 
     /// The value of a variable at the last visit, where the substituted loop has a valid value.
@@ -214,7 +226,7 @@ impl<'s, L: Locator> Visits<'s, L> {
         };
         let nest = &against.parts.nest;
         let leaf = self.progress.leaf();
-        match substituted_of(nest, leaf) {
+        match self.leaf.substituted {
             None => 0,
             Some(substituted) => {
                 let lane = Lane {

@@ -1,15 +1,15 @@
 //! The loops just around the last leaf of a nest, as the wheels of an odometer.
 
-ghost use Rattle.std.specs.Prelude.{◌≡◌, ◌<◌, ◌^◌, ◌++◌, ℕ, Some, None, IfOk, OnOk, if◌then◌else◌, length, slice_index, slice_index_or};
-ghost use Rattle.std.specs.Bool.{OnFalse, OnTrue};
+ghost use Rattle.std.specs.Prelude.{◌≡◌, ◌<◌, ◌+◌, ◌++◌, ℕ, false, Some, None, is_some, IfNone, IfOk, IfSome, OnOk, if◌then◌else◌, length, slice_index, take};
 ghost use Rattle.std.specs.List.{AllByRecursion};
 ghost use Rattle.dt_nest.specs.Tree.{leaf_count, tree_of};
 ghost use Rattle.dt_nest.specs.Schedule.{seen};
-ghost use Rattle.dt_nest.specs.Lawful.{is_split};
-ghost use Rattle.dt_nest.specs.Tables.{IsSplitVar};
-ghost use Rattle.dt_nest.specs.Wheels.{AreWheels, is_plain, last_guards, last_wheels, turned, wheels_of};
+ghost use Rattle.dt_nest.specs.Lawful.{IsLawful};
+ghost use Rattle.dt_nest.specs.Tables.{tabled};
+ghost use Rattle.dt_nest.specs.Wheels.{AreWheels, is_plain, is_wheel, last_guards, last_wheels, turned, wheels_of};
 
-use crate::derivations::{Derive, Derived};
+use crate::dependents::wheel_dependents;
+use crate::derivations::Derivations;
 use crate::loops::{Kernel, Nest};
 use crate::odometer::leaves;
 use crate::parts::SchedParts;
@@ -23,68 +23,33 @@ pub struct Wheel {
     pub last: u32,
 }
 
-/// The loops just around the last leaf of a nest, the innermost first, with the guards and the number of that leaf.
+/// The loops just around the last leaf of a nest, the innermost first, with the derivations that follow from each or from
+/// those inside it, and the guards and the number of that leaf.
 #[derive(Drop)]
 pub struct Wheels {
     pub items: Vec<Wheel>,
+    pub derived: Vec<Derivations>,
     pub guards: Vec<u32>,
     pub leaf: u32,
-    pub splits: bool,
 }
 
 impl Wheels {
     /// The wheels of a schedule's nest, below a path.
     pub fn of(alloc: Global, parts: &SchedParts, path: &[u32]) -> Result<Wheels, NoMemory>
-        requires { leaf_count (tree_of parts.now.nest) < 2 ^ 32 }
+        requires { IsLawful (seen parts.now) }
         ensures { IfOk result (λ wheels. AreWheels (seen parts.now) path.now wheels) }
     {
         let items = last_wheels(alloc, &parts.nest, path)?;
+        let names = parts.names.as_slice().len();
+        let derived = wheel_dependents(alloc, parts.derived.as_slice(), items.as_slice(), names)?;
         let guards = Vec::from_slice(alloc, last_guards(&parts.nest))?;
-        let splits = are_split(parts.derived.as_slice(), guards.as_slice());
         Ok(Wheels {
             items,
+            derived,
             guards,
             leaf: leaves(&parts.nest).saturating_sub(1),
-            splits,
         })
     }
-}
-
-/// Whether a derivation is that of a split.
-fn splits(how: &Derive) -> bool
-    ensures { result ≡ is_split how.now }
-{
-    match how {
-        Derive::Split { .. } => true,
-        Derive::Quotient { .. } => false,
-        Derive::Rest { .. } => false,
-        Derive::Rotate { .. } => false,
-        Derive::Pos { .. } => false,
-    }
-}
-
-/// Whether a variable is one of a split.
-fn is_split_var(derived: &[Derived], v: u32) -> bool
-    ensures { OnTrue result (IsSplitVar derived.now v) }
-{
-    for d in derived {
-        if d.var == v {
-            return splits(&d.how);
-        }
-    }
-    false
-}
-
-/// Whether each variable is one of a split.
-fn are_split(derived: &[Derived], vars: &[u32]) -> bool
-    ensures { OnTrue result (AllByRecursion (IsSplitVar derived.now) vars.now) }
-{
-    for v in vars {
-        if !is_split_var(derived, *v) {
-            return false;
-        }
-    }
-    true
 }
 
 /// Whether a nest is a leaf in loops that are neither walked nor substituted.
@@ -161,32 +126,38 @@ fn last_guards(nest: &Nest) -> &[u32]
     }
 }
 
-/// Goes on by one step, where a wheel can, and else leaves all as it is. The values of loops follow their slots.
-pub fn turn(wheels: &[Wheel], slots: &mut [u32], values: &mut [Option<u32>]) -> bool
+/// Goes on by one step, where a wheel can, and tells which did, or else leaves all as it is. The values of loops follow
+/// their slots.
+pub fn turn(wheels: &[Wheel], slots: &mut [u32], values: &mut [Option<u32>]) -> Option<usize>
     requires room { AllByRecursion (λ w. w.var < length slots.old) wheels.now }
     requires values { length values.old ≡ length slots.old }
-    ensures turned { turned wheels.now slots.old ≡ (if result then Some slots.new else None) }
-    ensures follow { (u : ℕ) → slice_index_or values.old u (Some 0) ≡ Some (slice_index slots.old u) → slice_index_or values.new u (Some 0) ≡ Some (slice_index slots.new u) }
+    ensures turned { turned wheels.now slots.old ≡ (if is_some result then Some slots.new else None) }
+    ensures within { IfSome result (λ k. k < length wheels.now) }
+    ensures stay { IfSome result (λ k. (u : ℕ) → is_wheel (take (k + 1) wheels.now) u ≡ false → slice_index slots.new u ≡ slice_index slots.old u) }
+    ensures follow { (u : ℕ) → tabled values.old u ≡ Some (slice_index slots.old u) → tabled values.new u ≡ Some (slice_index slots.new u) }
+    ensures others { (u : ℕ) → is_wheel wheels.now u ≡ false → tabled values.new u ≡ tabled values.old u }
     ensures length { length slots.new ≡ length slots.old }
     ensures values { length values.new ≡ length slots.old }
-    ensures stays { OnFalse result (slots.new ≡ slots.old) }
+    ensures stays { IfNone result ((slots.new ≡ slots.old) × (values.new ≡ values.old)) }
 {
     match wheels.split_first() {
-        None => false,
+        None => None,
         Some((wheel, rest)) => {
             let at = wheel.var as usize;
             let x = slots[at];
             if x < wheel.last {
                 slots[at] = x + 1;
                 values[at] = Some(x + 1);
-                return true;
+                return Some(0);
             }
-            if !turn(rest, slots, values) {
-                return false;
+            match turn(rest, slots, values) {
+                None => None,
+                Some(k) => {
+                    slots[at] = 0;
+                    values[at] = Some(0);
+                    Some(k + 1)
+                }
             }
-            slots[at] = 0;
-            values[at] = Some(0);
-            true
         }
     }
 }

@@ -1,17 +1,16 @@
 -- Each position of a tensor is in some node's home.
-use Rattle.std.proofs.Common.{◌≡◌, ℕ, zero, suc, ◌+◌, ◌-◌, ◌*◌, ◌/◌, ◌<◌, ◌≤◌, min, List, [], ◌∷◌, length, get_or, map, refl, ap, sym, ◌∙◌, subst, arith, Option, Some, None, option_map, Bool, true, false, cond, ◌&&◌, nat_eq, nat_le, nat_lt, inl, inr}
+use Rattle.std.proofs.Common.{◌≡◌, ℕ, zero, suc, ◌+◌, ◌-◌, ◌*◌, ◌/◌, ◌<◌, ◌≤◌, List, [], ◌∷◌, length, get_or, map, refl, ap, sym, ◌∙◌, subst, arith, Option, Some, None, option_map, Bool, true, false, cond, ◌&&◌, nat_eq, nat_le, nat_lt}
 use Rattle.std.specs.Prelude.{slice_index}
-use Rattle.std.specs.List.{All, AllByRecursion, AllZip, filter, list_all, zip}
-use Rattle.std.proofs.lemmas.Bool.{and_from, cases_Bool, eq-eqb, eqb-true, le-leb, lt-ltb, ltb-true}
-use Rattle.std.proofs.lemmas.List.{get_or-map, get_or_default, get_or_past, length-map}
-use Rattle.std.proofs.lemmas.List.Elements.{All-filter, All-from_get_or, All-get_or, AllZip-get_or, length_all_zip}
+use Rattle.std.specs.List.{All, AllByRecursion, AllZip, list_all, zip}
+use Rattle.std.proofs.lemmas.Bool.{and_from, eq-eqb, eqb-true, le-leb, lt-ltb, ltb-true}
+use Rattle.std.proofs.lemmas.List.{get_or-map, get_or_default}
+use Rattle.std.proofs.lemmas.List.Elements.{All-filter, All-from_get_or, All-get_or}
 use Rattle.dt_base.specs.Ranges.{assignments, below}
 use Rattle.dt_base.specs.Rows.{product, row_major}
 use Rattle.dt_base.proofs.Rows.{row_major-below}
 use Rattle.dt_model.specs.Positions.{StoredTensor, IsStored, coords_at, is_followed}
-use Rattle.dt_runs.specs.Sets.{contains}
-use Rattle.dt_place.specs.Blocks.{IsIn, block_of, block_size}
-use Rattle.dt_place.specs.Homes.{all_allow, allows, cut_of, cuts, home_of, is_home_to, lies_in, piece_of, side_of, sides_of, whole_side}
+use Rattle.dt_place.specs.Blocks.{block_of, block_size}
+use Rattle.dt_place.specs.Homes.{all_allow, allows, cut_of, is_home_to, lies_in, piece_of, side_of, sides_of, whole_side}
 use Rattle.dt_place.specs.HomeLaws.{Covers}
 use Rattle.dt_place.specs.Machines.{MachineView, IsMachine, dims_of, node_coords, nodes_of}
 use Rattle.dt_place.specs.Placements.{IsPlacement, IsWithin}
@@ -20,10 +19,11 @@ use Rattle.dt_place.specs.declared.placements.Placement.TheVariants.{FirstNode, 
 use Rattle.dt_place.specs.declared.placements.Symbol.{Symbol}
 use Rattle.dt_place.specs.declared.placements.Symbol.TheVariants.{Along, At, Every}
 use Rattle.dt_place.specs.declared.sides.Side.{Side}
-use Rattle.dt_place.proofs.Assignments.{assignment-row_major, length-assignments, row_major-assignment}
+use Rattle.dt_base.proofs.Assignments.{assignment-row_major, length-assignments, row_major-assignment}
 use Rattle.dt_place.proofs.BlockLemmas.{Within, are_blocks, block_size-room, block_size-some, quotient_within}
 use Rattle.dt_place.proofs.MachineFacts.{machine_facts}
-use Rattle.dt_place.proofs.PositionSets.{contains-passing, get_or-below, length-below}
+use Rattle.dt_base.proofs.Ranges.{get_or-below, length-below}
+use Rattle.dt_runs.proofs.BelowSets.{contains-passing}
 
 -- a coordinate lies in a side that has room for it
 pub record Fits (x : ℕ) (s : Side) : Type 0 where

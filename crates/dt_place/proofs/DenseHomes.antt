@@ -1,15 +1,15 @@
 -- A tensor whose levels are dense: the positions inside sides are the numbers of a box.
-use Rattle.std.proofs.Common.{◌≡◌, ℕ, zero, suc, ◌+◌, ◌-◌, ◌*◌, ◌<◌, ◌≤◌, min, List, [], ◌∷◌, ◌++◌, length, get_or, map, take, refl, ap, sym, ◌∙◌, subst, arith, Option, Some, None, Bool, true, false, cond, not, ◌&&◌, ◌||◌, nat_le, nat_lt, inl, inr}
+use Rattle.std.proofs.Common.{◌≡◌, ℕ, zero, suc, ◌+◌, ◌-◌, ◌*◌, ◌<◌, ◌≤◌, List, [], ◌∷◌, ◌++◌, length, get_or, map, take, refl, ap, sym, ◌∙◌, subst, arith, Bool, true, false, cond, not, ◌&&◌, ◌||◌, nat_le, nat_lt}
 use Rattle.std.specs.Prelude.{slice_index}
-use Rattle.std.specs.List.{All, AllByRecursion, count_by, filter, filter_map, flat_map, list_all, list_any, sum_by}
-use Rattle.std.proofs.lemmas.Bool.{and_from, and_left, and_right, cases_Bool, le-leb, lt-leb, lt-ltb, le-ltb}
+use Rattle.std.specs.List.{AllByRecursion, count_by, filter, filter_map, flat_map, list_all, list_any}
+use Rattle.std.proofs.lemmas.Bool.{and_from, and_left, and_right, le-leb, lt-leb, lt-ltb, le-ltb}
 use Rattle.std.proofs.lemmas.List.{append-nil, ext_get_or, get_or-map, length-map}
 use Rattle.std.proofs.lemmas.List.Concat.{flat_map-append}
-use Rattle.std.proofs.lemmas.List.Elements.{All-filter, filter-append, filter_agree, recursion_from_All}
+use Rattle.std.proofs.lemmas.List.Elements.{filter-append, recursion_from_All}
 use Rattle.std.proofs.lemmas.List.Sums.{sum_by-cons}
 use Rattle.dt_base.specs.Ranges.{assignments, below}
 use Rattle.dt_base.specs.Rows.{product, row_major}
-use Rattle.dt_model.specs.Positions.{StoredTensor, IsStored, begins, coords_at, cost_of, is_followed}
+use Rattle.dt_model.specs.Positions.{StoredTensor, IsStored, begins, cost_of, is_followed}
 use Rattle.dt_runs.specs.Boxes.{AreCorners, box_numbers, coords_between}
 use Rattle.dt_runs.specs.Intervals.{ascending, range}
 use Rattle.dt_runs.proofs.RangeLemmas.{range-append}
@@ -18,8 +18,9 @@ use Rattle.dt_place.specs.Homes.{cut_of, inside_of, lies_in, piece_of, side_of, 
 use Rattle.dt_place.specs.Blocks.{block_size}
 use Rattle.dt_place.specs.declared.placements.Symbol.{Symbol}
 use Rattle.dt_place.specs.declared.sides.Side.{Side}
-use Rattle.dt_place.proofs.Assignments.{length-assignments, row_major-assignment}
-use Rattle.dt_place.proofs.PositionSets.{filter_below-small, get_or-below, length-below}
+use Rattle.dt_base.proofs.Assignments.{length-assignments, row_major-assignment}
+use Rattle.dt_base.proofs.Ranges.{get_or-below, length-below}
+use Rattle.dt_runs.proofs.BelowSets.{filter_below-small}
 use Rattle.std.proofs.lemmas.Nat.{mul-le}
 
 -- the first coordinates of sides, and the ends

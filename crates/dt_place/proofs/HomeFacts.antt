@@ -1,8 +1,8 @@
 -- Homes under each kind of placement.
-use Rattle.std.proofs.Common.{◌≡◌, ℕ, ◌<◌, ◌≤◌, List, [], ◌∷◌, length, refl, ap, sym, ◌∙◌, subst, arith, Bool, true, false, ◌&&◌, nat_eq, nat_le, nat_lt}
+use Rattle.std.proofs.Common.{◌≡◌, ℕ, List, [], ◌∷◌, length, refl, ap, sym, ◌∙◌, subst, arith, Bool, true, false, ◌&&◌, nat_eq, nat_le, nat_lt}
 use Rattle.std.specs.List.{AllZip, filter}
 use Rattle.std.proofs.lemmas.Bool.{and_from, and_left, le-leb, lt-ltb, ne_eqb}
-use Rattle.std.proofs.lemmas.List.Elements.{filter_agree, length_all_zip}
+use Rattle.std.proofs.lemmas.List.Elements.{filter_agree}
 use Rattle.dt_base.specs.Ranges.{below}
 use Rattle.dt_model.specs.Positions.{StoredTensor, coords_at}
 use Rattle.dt_place.specs.Homes.{all_allow, home_of, inside_of, is_home_to, is_in_block, lies_in, sides_of}
@@ -11,15 +11,16 @@ use Rattle.dt_place.specs.Placements.{IsPlacement, IsWithin}
 use Rattle.dt_place.specs.declared.placements.Placement.{Placement}
 use Rattle.dt_place.specs.declared.placements.Placement.TheVariants.{FirstNode, ByNames}
 use Rattle.dt_place.specs.declared.placements.Symbol.{Symbol}
-use Rattle.dt_place.proofs.PositionSets.{filter-every, filter-never}
+use Rattle.dt_base.proofs.Ranges.{filter_below-every}
+use Rattle.dt_place.proofs.PositionSets.{filter-never}
 
 -- node 0 is home to all positions
 pub first_node-all : (placement : Placement) (m : MachineView) (t : StoredTensor) (node count : ℕ) → placement ≡ FirstNode → node ≡ 0 → count ≡ length t.coords
     → filter (λ pos. is_in_block pos (0, count)) (below count) ≡ home_of placement m t node
 first_node-all placement m t node count p z e =
-    filter-every (λ pos. nat_le 0 pos && nat_lt pos count) count (λ k h. and_from (nat_le 0 k) (nat_lt k count) (le-leb 0 k (omega arith)) (lt-ltb k count h))
+    filter_below-every (λ pos. nat_le 0 pos && nat_lt pos count) count (λ k h. and_from (nat_le 0 k) (nat_lt k count) (le-leb 0 k (omega arith)) (lt-ltb k count h))
     ∙ ap (λ (n : ℕ). below n) e
-    ∙ sym (ap (λ (l : Placement). home_of l m t node) p ∙ ap (λ (n : ℕ). home_of FirstNode m t n) z ∙ filter-every (λ pos. nat_eq 0 0) (length t.coords) (λ k h. refl))
+    ∙ sym (ap (λ (l : Placement). home_of l m t node) p ∙ ap (λ (n : ℕ). home_of FirstNode m t n) z ∙ filter_below-every (λ pos. nat_eq 0 0) (length t.coords) (λ k h. refl))
 
 -- another node is home to none
 pub first_node-none : (placement : Placement) (m : MachineView) (t : StoredTensor) (node : ℕ) → placement ≡ FirstNode → (node ≡ 0 → ⊥) → [] ≡ home_of placement m t node

@@ -1,13 +1,10 @@
-pub mod Assignments
 pub mod BlockLemmas
-pub mod Coordinates
 pub mod Coverage
 pub mod DenseHomes
 pub mod HomeFacts
+pub mod HomeLists
 pub mod MachineFacts
-pub mod PieceLemmas
 pub mod PlaceFacts
 pub mod PlaceSteps
 pub mod PositionSets
 pub mod SideLemmas
-pub mod WordLists

@@ -1,5 +1,5 @@
 -- The blocks of an extent.
-use Rattle.std.specs.Prelude.{◌≡◌, ℕ, suc, ◌+◌, ◌*◌, ◌<◌, ◌≤◌, min}
+use Rattle.std.specs.Prelude.{ℕ, ◌+◌, ◌*◌, ◌<◌, ◌≤◌, min}
 use Rattle.std.specs.Int.{div_ceil}
 
 -- the size of a block where n numbers are cut into p pieces, rounded up

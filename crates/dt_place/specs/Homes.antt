@@ -1,5 +1,5 @@
 -- Homes: which words of a tensor a node holds.
-use Rattle.std.specs.Prelude.{ℕ, suc, ◌+◌, ◌*◌, List, [], ◌∷◌, length, map, filter, min, Bool, true, false, ◌&&◌, ◌==◌, nat_le, nat_lt, if◌then◌else◌, slice_index}
+use Rattle.std.specs.Prelude.{ℕ, ◌+◌, ◌*◌, List, [], ◌∷◌, length, map, filter, min, Bool, true, false, ◌&&◌, ◌==◌, nat_le, nat_lt, if◌then◌else◌, slice_index}
 use Rattle.std.specs.List.{list_all, zip}
 use Rattle.dt_base.specs.Ranges.{below}
 use Rattle.dt_model.specs.Positions.{StoredTensor, coords_at}
@@ -71,3 +71,7 @@ is_home_to ByPositions m t node pos = is_in_block pos (block_of (length t.coords
 -- the home of a tensor on a node: the positions that it is home to, ascending
 abbrev pub home_of : Placement → MachineView → StoredTensor → ℕ → List ℕ
 home_of placement m t node = filter (is_home_to placement m t node) (below (length t.coords))
+
+-- the homes of a tensor on all nodes, in the nodes' order
+abbrev pub homes_on : Placement → MachineView → StoredTensor → List (List ℕ)
+homes_on placement m t = map (home_of placement m t) (below (nodes_of m))

@@ -4,6 +4,5 @@ pub mod Homes
 pub mod MachineLaws
 pub mod MachineLine
 pub mod Machines
-pub mod Pieces
 pub mod PlaceLine
 pub mod Placements

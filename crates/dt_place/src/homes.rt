@@ -6,12 +6,13 @@ ghost use Rattle.dt_model.specs.Positions.{coords_at, tensor_at};
 ghost use Rattle.dt_base.specs.Rows.{product};
 ghost use Rattle.dt_runs.specs.Boxes.{AreCorners, box_numbers};
 ghost use Rattle.dt_runs.specs.Sets.{contains};
-ghost use Rattle.dt_place.specs.Homes.{all_allow, allows, home_of, inside_of, is_in_block, lies_in};
+ghost use Rattle.dt_place.specs.Homes.{all_allow, allows, home_of, homes_on, inside_of, is_in_block, lies_in};
 ghost use Rattle.dt_place.specs.Machines.{dims_of, nodes_of};
 ghost use Rattle.dt_place.specs.Placements.{IsPlacement};
 ghost use Rattle.dt_place.specs.declared.placements.Placement.TheVariants.{ByNames};
 
 use crate::blocks::block;
+use crate::home_list::Homes;
 use crate::machines::Machine;
 use crate::placements::{Placement, Symbol};
 use crate::sides::{Side, sides_at};
@@ -57,6 +58,26 @@ pub fn home<L: Locator>(
             between(alloc, count, from, to)
         }
     }
+}
+
+/// The positions of the tensor that each node is home to.
+pub fn homes_on<L: Locator>(
+    alloc: Global,
+    placement: &Placement,
+    machine: &Machine,
+    loc: &L,
+    tensor: u32,
+) -> Result<Homes, NoMemory>
+    requires placement { IsPlacement placement.now machine.now }
+    requires tensor { tensor < length (L.tensors loc.now) }
+    ensures homes { IfOk result (λ homes. homes ≡ homes_on placement.now machine.now (tensor_at (L.tensors loc.now) tensor)) }
+    ensures count { IfOk result (λ homes. length homes ≡ nodes_of machine.now) }
+{
+    let mut items = Vec::new(alloc);
+    for node in 0..machine.nodes() {
+        items.push(home(alloc, placement, machine, loc, tensor, node)?)?;
+    }
+    Ok(Homes { items })
 }
 
 /// The least node whose home has the position, and none where no home has it.

@@ -7,10 +7,8 @@ ghost use Rattle.dt_model.specs.Steps.{Gives};
 ghost use Rattle.dt_place.specs.MachineLine.{machine_line, machine_with};
 
 use crate::machines::Machine;
-use crate::numerals::{are_all_numerals, read_numbers};
-use crate::separating::pieces;
-use dt_model::{Cause, LineEnd};
-use dt_text::{Token, word, words};
+use dt_model::{Cause, LineEnd, found, need};
+use dt_text::{Token, all_numbers, are_all_numerals, parts_at, word, words};
 use std::alloc::Global;
 
 /// The machine of a line, from what stands behind its first word. BadDim where a dimension is 0, or there are more than
@@ -32,11 +30,12 @@ fn read_machine(alloc: Global, text: &[u8], tokens: &[Token]) -> Result<Machine,
     match tokens {
         [level] => {
             let level = word(text, *level);
-            let parts = pieces(alloc, level, b'x')?;
-            if !are_all_numerals(level, parts.as_slice()) {
-                return Err(LineEnd::Refused(Cause::Syntax));
-            }
-            let numbers = read_numbers(alloc, level, parts.as_slice())?;
+            let parts = parts_at(alloc, level, b'x')?;
+            need(are_all_numerals(level, parts.as_slice()), Cause::Syntax)?;
+            let numbers = found(
+                all_numbers(alloc, level, parts.as_slice())?,
+                Cause::BadNumber,
+            )?;
             Machine::of_level(alloc, numbers.as_slice())
         }
         _ => Err(LineEnd::Refused(Cause::Syntax)),

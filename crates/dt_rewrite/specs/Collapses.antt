@@ -1,14 +1,15 @@
 -- Two loops as one: when it is lawful, and what it makes of a schedule.
-use Rattle.std.specs.Prelude.{ℕ, ◌*◌, List, [], ◌∷◌, length, Option, nat_le, slice_index}
+use Rattle.std.specs.Prelude.{ℕ, ◌*◌, List, [], ◌∷◌, length, Option, nat_le, slice_index, ◌<◌}
 use Rattle.dt_model.specs.declared.cause.Cause.{Cause}
 use Rattle.dt_model.specs.declared.cause.Cause.TheVariants as cause
 use Rattle.dt_nest.specs.declared.derivations.Derive.TheVariants as how
-use Rattle.dt_nest.specs.declared.cuts.Cut.{Cut}
+use Rattle.dt_cuts.specs.declared.cuts.Cut.{Cut}
 use Rattle.dt_nest.specs.Schedule.{Schedule}
-use Rattle.dt_nest.specs.Cutting.{cut_by}
+use Rattle.dt_nest.specs.Commands.{Rule}
+use Rattle.dt_cuts.specs.Cutting.{cut_by, cut_rule}
 use Rattle.dt_rewrite.specs.declared.collapses.Collapse.{Collapse}
-use Rattle.dt_rewrite.specs.Causes.{first_cause, unless, unknown_loop, taken_name, not_free}
-use Rattle.dt_rewrite.specs.Standing.{is_chain}
+use Rattle.dt_cuts.specs.Causes.{first_cause, unless, unknown_loop, taken_name, not_free}
+use Rattle.dt_nest.specs.Questions.{is_chain}
 
 -- TooLarge where the fused loop would have more than 16,777,216 values
 abbrev pub too_large : ℕ → ℕ → Option Cause
@@ -47,3 +48,7 @@ collapse_cut c s =
 -- the schedule after a collapse
 abbrev pub collapse_effect : Collapse → Schedule → Schedule
 collapse_effect c s = cut_by (collapse_cut c s) s
+
+-- a collapse as a command; all tensors suit it
+abbrev pub collapse_rule : Collapse → Rule
+collapse_rule c = cut_rule (λ s. (c.outer < length s.names) × (c.inner < length s.names)) (collapse_cause c) (collapse_cut c) (λ stored s. Unit {0})

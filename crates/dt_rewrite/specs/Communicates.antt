@@ -1,24 +1,20 @@
 -- Tensors that are moved once for each iteration of a loop: when it is lawful, and what it makes of a schedule.
-use Rattle.std.specs.Prelude.{ℕ, zero, suc, ◌+◌, ◌-◌, ◌&&◌, ◌||◌, Bool, not, List, [], ◌∷◌, ◌++◌, length, map, Option, Some, None, option_map, find, if◌then◌else◌, nat_eq, nat_lt, slice_index_or}
-use Rattle.std.specs.List.{last_or, list_any}
+use Rattle.std.specs.Prelude.{ℕ, zero, suc, ◌+◌, ◌-◌, ◌&&◌, ◌||◌, Bool, not, List, [], ◌∷◌, ◌++◌, length, map, Option, Some, None, option_map, find, if◌then◌else◌, nat_eq, nat_lt, slice_index_or, ◌<◌}
+use Rattle.std.specs.List.{AllByRecursion, last_or, list_any}
 use Rattle.std.specs.Option.{option_or}
 use Rattle.dt_model.specs.declared.cause.Cause.{Cause}
 use Rattle.dt_model.specs.declared.cause.Cause.TheVariants as cause
 use Rattle.dt_nest.specs.declared.parts.Moved.{Moved}
 use Rattle.dt_nest.specs.Tree.{Tree, Loop, Pre, Leaf, loop_count, accesses_of}
-use Rattle.dt_nest.specs.Place.{is_among}
+use Rattle.dt_nest.specs.Questions.{is_among, is_in, accesses_tensor}
+use Rattle.dt_nest.specs.Commands.{Rule}
 use Rattle.dt_nest.specs.Schedule.{Schedule}
 use Rattle.dt_rewrite.specs.declared.communicates.Communicate.{Communicate}
-use Rattle.dt_rewrite.specs.Causes.{first_cause, first_with, unless, name_of, unknown_loop, fixed_loop}
-use Rattle.dt_rewrite.specs.Standing.{is_in}
+use Rattle.dt_cuts.specs.Causes.{first_cause, first_with, unless, name_of, unknown_loop, fixed_loop}
 
 -- the name of a tensor or workspace
 abbrev pub tensor_name : Schedule → ℕ → List ℕ
 tensor_name s t = slice_index_or (s.tensors ++ map (λ w. w.name) s.works) t []
-
--- whether a leaf of the tree accesses the tensor
-abbrev pub accesses_tensor : Tree → ℕ → Bool
-accesses_tensor tree t = list_any (λ a. nat_eq a.tensor t) (accesses_of tree)
 
 -- UnknownTensor with the first that is a workspace, or that the statement doesn't access
 abbrev pub unknown_tensor : Schedule → List ℕ → Option Cause
@@ -65,17 +61,12 @@ moves_at v ts = map (λ t. record { tensor = t; at = v }) ts
 abbrev pub communicate_effect : Communicate → Schedule → Schedule
 communicate_effect c s = record s { moved = s.moved ++ moves_at c.var c.tensors }
 
--- the first k loops from the outside in
-abbrev pub distributed_loops : ℕ → Tree → List ℕ
-distributed_loops zero tree = []
-distributed_loops (suc k) (Loop v n walk body) = v ∷ distributed_loops k body
-distributed_loops (suc k) (Pre work pairs producer consumer) = []
-distributed_loops (suc k) (Leaf lhs terms guards kernel) = []
-
--- the loop at which a communicate moves the tensor
-abbrev pub named_loop : List Moved → ℕ → Option ℕ
-named_loop moved t = option_map (λ (m : Moved). m.at) (find (λ m. nat_eq m.tensor t) moved)
-
--- the loop at which a tensor is moved: that of its communicate, else the last distributed loop; None is the root
-abbrev pub communicate_loop : Schedule → ℕ → Option ℕ
-communicate_loop s t = option_or (named_loop s.moved t) (last_or None (distributed_loops s.distributed s.nest))
+-- a communicate as a command; all tensors suit it
+abbrev pub communicate_rule : Communicate → Rule
+communicate_rule c = record {
+  can = λ s. (c.var < length s.names) × AllByRecursion (λ t. t < length s.tensors + length s.works) c.tensors;
+  cause = communicate_cause c;
+  effect = communicate_effect c;
+  suits = λ stored s. Unit {0};
+  serves = λ dims. Unit {0};
+}

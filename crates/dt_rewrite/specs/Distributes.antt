@@ -1,11 +1,13 @@
 -- Loops over the machine's dimensions: when it is lawful, and what it makes of a schedule.
-use Rattle.std.specs.Prelude.{ℕ, ◌-◌, List, [], ◌∷◌, length, Option, Some, None, option_map, if◌then◌else◌, nat_eq, slice_index, take}
+use Rattle.std.specs.Prelude.{ℕ, ◌-◌, List, [], ◌∷◌, length, Option, Some, None, option_map, if◌then◌else◌, nat_eq, slice_index, take, ◌≡◌, ◌<◌}
+use Rattle.std.specs.List.{AllByRecursion}
 use Rattle.dt_model.specs.declared.cause.Cause.{Cause}
 use Rattle.dt_model.specs.declared.cause.Cause.TheVariants as cause
+use Rattle.dt_nest.specs.Commands.{Rule}
 use Rattle.dt_nest.specs.Schedule.{Schedule}
 use Rattle.dt_rewrite.specs.declared.distributes.Distribute.{Distribute}
-use Rattle.dt_rewrite.specs.Causes.{first_cause, unless, name_of, unknown_loop, communicated_loop, fixed_loop}
-use Rattle.dt_rewrite.specs.Standing.{misplaced}
+use Rattle.dt_cuts.specs.Causes.{first_cause, unless, name_of, unknown_loop, communicated_loop, fixed_loop}
+use Rattle.dt_nest.specs.Questions.{misplaced}
 
 -- Distributed with the first of these loops, where the statement is distributed
 abbrev pub distributed_before : Schedule → List ℕ → Option Cause
@@ -46,3 +48,13 @@ distribute_cause c s = first_cause (distribute_tests c s)
 -- the schedule after a distribute: so many of its outermost loops are distributed
 abbrev pub distribute_effect : Distribute → Schedule → Schedule
 distribute_effect c s = record s { distributed = length c.vars }
+
+-- a distribute as a command, for the machine with its dimensions; all tensors suit it
+abbrev pub distribute_rule : Distribute → Rule
+distribute_rule c = record {
+  can = λ s. AllByRecursion (λ v. v < length s.names) c.vars;
+  cause = distribute_cause c;
+  effect = distribute_effect c;
+  suits = λ stored s. Unit {0};
+  serves = λ dims. c.grid ≡ dims;
+}

@@ -1,15 +1,16 @@
 -- A loop rotated by loops around it: when it is lawful, and what it makes of a schedule.
-use Rattle.std.specs.Prelude.{ℕ, not, List, [], ◌∷◌, length, Option, slice_index}
+use Rattle.std.specs.Prelude.{ℕ, not, List, [], ◌∷◌, length, Option, slice_index, ◌<◌}
+use Rattle.std.specs.List.{AllByRecursion}
 use Rattle.dt_model.specs.declared.cause.Cause.{Cause}
 use Rattle.dt_model.specs.declared.cause.Cause.TheVariants as cause
 use Rattle.dt_nest.specs.declared.derivations.Derive.TheVariants as how
-use Rattle.dt_nest.specs.declared.cuts.Cut.{Cut}
-use Rattle.dt_nest.specs.Place.{loops_to}
+use Rattle.dt_cuts.specs.declared.cuts.Cut.{Cut}
+use Rattle.dt_nest.specs.Questions.{loops_to, is_in}
 use Rattle.dt_nest.specs.Schedule.{Schedule}
-use Rattle.dt_nest.specs.Cutting.{cut_by}
+use Rattle.dt_nest.specs.Commands.{Rule}
+use Rattle.dt_cuts.specs.Cutting.{cut_by, cut_rule}
 use Rattle.dt_rewrite.specs.declared.rotates.Rotate.{Rotate}
-use Rattle.dt_rewrite.specs.Causes.{first_cause, first_with, name_of, unknown_loop, taken_name, not_free}
-use Rattle.dt_rewrite.specs.Standing.{is_in}
+use Rattle.dt_cuts.specs.Causes.{first_cause, first_with, name_of, unknown_loop, taken_name, not_free}
 
 -- NotOuter with the first that is no loop around t
 abbrev pub not_outer : Schedule → ℕ → List ℕ → Option Cause
@@ -46,3 +47,7 @@ rotate_cut c s =
 -- the schedule after a rotate
 abbrev pub rotate_effect : Rotate → Schedule → Schedule
 rotate_effect c s = cut_by (rotate_cut c s) s
+
+-- a rotate as a command; all tensors suit it
+abbrev pub rotate_rule : Rotate → Rule
+rotate_rule c = cut_rule (λ s. (c.var < length s.names) × AllByRecursion (λ v. v < length s.names) c.by) (rotate_cause c) (rotate_cut c) (λ stored s. Unit {0})

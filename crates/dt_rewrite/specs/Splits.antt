@@ -1,12 +1,13 @@
 -- A loop in two, by the extent of the inner one: when it is lawful, and what it makes of a schedule.
-use Rattle.std.specs.Prelude.{List, [], ◌∷◌, Option, slice_index}
+use Rattle.std.specs.Prelude.{List, [], ◌∷◌, Option, slice_index, ◌<◌, length}
 use Rattle.std.specs.Int.{div_ceil}
 use Rattle.dt_model.specs.declared.cause.Cause.{Cause}
-use Rattle.dt_nest.specs.declared.cuts.Cut.{Cut}
+use Rattle.dt_cuts.specs.declared.cuts.Cut.{Cut}
 use Rattle.dt_nest.specs.Schedule.{Schedule}
-use Rattle.dt_nest.specs.Cutting.{cut_by}
+use Rattle.dt_nest.specs.Commands.{Rule}
+use Rattle.dt_cuts.specs.Cutting.{cut_by, cut_rule}
 use Rattle.dt_rewrite.specs.declared.splits.Split.{Split}
-use Rattle.dt_rewrite.specs.Causes.{first_cause}
+use Rattle.dt_cuts.specs.Causes.{first_cause}
 use Rattle.dt_rewrite.specs.TwoLoops.{two_loops, two_loops_tests}
 
 -- the tests of a split, in their order
@@ -25,3 +26,7 @@ split_cut c s =
 -- the schedule after a split
 abbrev pub split_effect : Split → Schedule → Schedule
 split_effect c s = cut_by (split_cut c s) s
+
+-- a split as a command; all tensors suit it
+abbrev pub split_rule : Split → Rule
+split_rule c = cut_rule (λ s. c.var < length s.names) (split_cause c) (split_cut c) (λ stored s. Unit {0})

@@ -2,9 +2,9 @@
 use Rattle.std.specs.Prelude.{ℕ, ◌+◌, List, [], ◌∷◌, length, Option}
 use Rattle.dt_model.specs.declared.cause.Cause.{Cause}
 use Rattle.dt_nest.specs.declared.derivations.Derive.TheVariants as how
-use Rattle.dt_nest.specs.declared.cuts.Cut.{Cut}
+use Rattle.dt_cuts.specs.declared.cuts.Cut.{Cut}
 use Rattle.dt_nest.specs.Schedule.{Schedule}
-use Rattle.dt_rewrite.specs.Causes.{bad_number, not_free, taken_name, too_many_loops, unknown_loop}
+use Rattle.dt_cuts.specs.Causes.{bad_number, not_free, taken_name, too_many_loops, unknown_loop}
 
 -- the tests of a cut of loop v in two by the number m, in their order
 abbrev pub two_loops_tests : ℕ → ℕ → List (List ℕ) → Schedule → List (Option Cause)

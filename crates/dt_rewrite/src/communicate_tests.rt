@@ -3,12 +3,12 @@
 ghost use Rattle.std.specs.Prelude.{◌≡◌, ◌≤◌, IfOk};
 ghost use Rattle.dt_nest.specs.Tree.{loop_count, tree_of};
 
-use crate::causes::name_of;
+use crate::Communicate;
 use crate::fixtures::{Answer, Command, after, answered, are_moved, letter, product, tensor, told};
-use crate::{Communicate, communicate_loop};
 use dt_base::{NoMemory, Vars};
+use dt_cuts::name_of;
 use dt_model::{Access, Terms};
-use dt_nest::{Kernel, Nest, Pairs, Walk};
+use dt_nest::{Kernel, Nest, Pairs, Rewrite, Walk, communicate_loop};
 use std::alloc::Global;
 use std::test::Fail;
 

@@ -4,11 +4,10 @@ ghost use Rattle.std.specs.Prelude.{◌≡◌};
 ghost use Rattle.dt_nest.specs.Schedule.{seen};
 ghost use Rattle.dt_rewrite.specs.Distributes.{distribute_cause, distributed_before, front_of, not_outermost, wrong_extent};
 
-use crate::causes::{communicated_loop, extent_of, fixed_loop, name_of, unknown_loop, unless};
-use crate::standing::misplaced;
 use dt_base::{Extents, Vars};
+use dt_cuts::{communicated_loop, extent_of, fixed_loop, name_of, unknown_loop, unless};
 use dt_model::Cause;
-use dt_nest::{Rewrite, RewriteEnd, Sched, SchedParts};
+use dt_nest::{Rewrite, SchedParts, misplaced};
 use std::alloc::Global;
 
 /// The outermost loops become the dimensions of the machine, one loop each, in order. `grid` has the extent of each
@@ -17,23 +16,6 @@ use std::alloc::Global;
 pub struct Distribute {
     pub vars: Vars,
     pub grid: Extents,
-}
-
-impl Distribute {
-    /// The first cause against the distribute.
-    pub(crate) fn first_cause(&self, parts: &SchedParts) -> Option<Cause>
-        ensures { result ≡ distribute_cause self.now (seen parts.now) }
-    {
-        let vars = self.vars.as_slice();
-        let grid = self.grid.as_slice();
-        unknown_loop(parts, vars)
-            .or_else(|| unless(vars.len() == grid.len(), Cause::WrongCount))
-            .or_else(|| distributed_before(parts, vars))
-            .or_else(|| not_outermost(parts, vars))
-            .or_else(|| wrong_extent(parts, vars, grid))
-            .or_else(|| communicated_loop(parts, all_but_last(vars)))
-            .or_else(|| fixed_loop(parts, vars))
-    }
 }
 
 /// Distributed with the first of these loops, where the statement is distributed.
@@ -76,25 +58,30 @@ fn all_but_last(vars: &[u32]) -> &[u32]
 }
 
 impl Rewrite for Distribute {
-    ghost use Rattle.std.specs.Prelude.{◌<◌, length};
-    ghost use Rattle.std.specs.List.{AllByRecursion};
-    ghost use Rattle.dt_rewrite.specs.Distributes.{distribute_cause, distribute_effect};
-    ghost use Rattle.dt_rewrite.specs.DistributeLaw.{distribute_keeps};
+    ghost use Rattle.dt_rewrite.specs.Distributes.{distribute_rule};
+    ghost use Rattle.dt_rewrite.specs.Laws.Distribute.{distribute_keeps};
 
-    ghost can_apply = { λ c s. AllByRecursion (λ v. v < length s.names) c.vars };
+    ghost rule = { distribute_rule };
 
-    ghost cause = { distribute_cause };
-
-    ghost effect = { distribute_effect };
-
-    ghost keeps_sum = { distribute_keeps };
-
-    fn apply(self, _alloc: Global, sched: Sched) -> Result<Sched, RewriteEnd> {
-        if let Some(cause) = self.first_cause(sched.parts()) {
-            return Err(RewriteEnd::Illegal(sched, cause));
-        }
-        let mut parts = sched.into_parts();
-        parts.distributed = self.vars.as_slice().len() as u32;
-        Ok(Sched::from_parts(parts))
+    fn first_cause(&self, parts: &SchedParts) -> Option<Cause>
+        ensures { result ≡ distribute_cause self.now (seen parts.now) }
+    {
+        let vars = self.vars.as_slice();
+        let grid = self.grid.as_slice();
+        unknown_loop(parts, vars)
+            .or_else(|| unless(vars.len() == grid.len(), Cause::WrongCount))
+            .or_else(|| distributed_before(parts, vars))
+            .or_else(|| not_outermost(parts, vars))
+            .or_else(|| wrong_extent(parts, vars, grid))
+            .or_else(|| communicated_loop(parts, all_but_last(vars)))
+            .or_else(|| fixed_loop(parts, vars))
     }
+
+    fn applied(self, _alloc: Global, parts: SchedParts) -> Result<SchedParts, SchedParts> {
+        let mut parts = parts;
+        parts.distributed = self.vars.as_slice().len() as u32;
+        Ok(parts)
+    }
+
+    ghost keeps = { distribute_keeps };
 }

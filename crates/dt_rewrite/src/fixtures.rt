@@ -4,9 +4,9 @@ ghost use Rattle.std.specs.Prelude.{◌≡◌, ◌+◌, ◌<◌, [], ◌∷◌, 
 ghost use Rattle.std.specs.List.{AllByRecursion};
 ghost use Rattle.std.specs.Bool.{OnTrue};
 
-use crate::causes::name_of;
 use crate::{Collapse, Communicate, Distribute, Divide, Reorder, Rotate, Split};
 use dt_base::{Extents, Name, Names, NoMemory, Vars};
+use dt_cuts::name_of;
 use dt_model::{Access, Cause, Stmt, Terms};
 use dt_nest::{Derive, Derived, Moved, Nest, Rewrite, RewriteEnd, Sched, SchedParts};
 use std::alloc::Global;

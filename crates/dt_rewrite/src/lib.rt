@@ -1,7 +1,6 @@
 //! The commands that cut a loop nest or lay it out on the machine: when each is lawful, and what it makes of a schedule.
 #![tactic(auto)]
 
-mod causes;
 mod collapses;
 #[cfg(test)]
 mod communicate_tests;
@@ -12,21 +11,17 @@ mod divides;
 mod effect_tests;
 #[cfg(test)]
 mod fixtures;
-mod moved_at;
 mod reorders;
 mod rotates;
 mod splits;
-mod standing;
 #[cfg(test)]
 mod tests;
 mod two_loops;
 
 pub use collapses::Collapse;
-pub use communicates::{Communicate, accesses_tensor};
+pub use communicates::Communicate;
 pub use distributes::Distribute;
 pub use divides::Divide;
-pub use moved_at::communicate_loop;
 pub use reorders::Reorder;
 pub use rotates::Rotate;
 pub use splits::Split;
-pub use standing::has_loop;

@@ -7,7 +7,7 @@ ghost use Rattle.dt_nest.specs.Schedule.{seen};
 use crate::fixtures::{Answer, name, product, told};
 use crate::{Collapse, Distribute, Divide, Reorder, Rotate, Split};
 use dt_base::{Extents, NoMemory, Vars};
-use dt_nest::{Moved, SchedParts};
+use dt_nest::{Moved, Rewrite, SchedParts};
 use std::alloc::Global;
 use std::test::Fail;
 

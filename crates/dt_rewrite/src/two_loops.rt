@@ -3,15 +3,16 @@
 ghost use Rattle.std.specs.Prelude.{◌≡◌, ◌+◌, ◌<◌, ◌≤◌, ◌^◌, [], ◌∷◌, IfOk, length, slice_index};
 ghost use Rattle.dt_nest.specs.Tree.{loop_count};
 ghost use Rattle.dt_nest.specs.Schedule.{seen};
-ghost use Rattle.dt_rewrite.specs.Causes.{first_cause};
+ghost use Rattle.dt_cuts.specs.Causes.{first_cause};
 ghost use Rattle.dt_rewrite.specs.TwoLoops.{two_loops, two_loops_tests};
 
-use crate::causes::{
-    bad_number, extent_of, first_new_loop, not_free, taken_name, too_many_loops, unknown_loop,
-};
 use dt_base::{Extents, Name, Names, NoMemory, Vars};
+use dt_cuts::{
+    Cut, Head, Heads, bad_number, extent_of, first_new_loop, not_free, taken_name, too_many_loops,
+    unknown_loop,
+};
 use dt_model::Cause;
-use dt_nest::{Cut, Derivations, Derive, Derived, Head, Heads, SchedParts};
+use dt_nest::{Derivations, Derive, Derived, SchedParts};
 use std::alloc::Global;
 
 /// The first cause against a cut of loop `v` in two by a number.
@@ -44,7 +45,7 @@ pub fn two_loops_cut(
     inner: &Name,
 ) -> Result<Cut, NoMemory>
     ensures cut { IfOk result (λ c. c ≡ two_loops v (slice_index (seen parts.now).extents v) pieces size (outer.now ∷ inner.now ∷ []) (seen parts.now)) }
-    ensures few { IfOk result (λ _. length (seen parts.now).names + 2 < 2 ^ 32) }
+    ensures few { IfOk result (λ c. length (seen parts.now).names + length c.names < 2 ^ 32) }
 {
     let first = first_new_loop(parts, 2)?;
     let second = first + 1;

@@ -1,23 +1,16 @@
 -- The tensors of a job as they are given, over what they store.
-use Rattle.std.proofs.Common.{◌≡◌, ℕ, zero, suc, ◌<◌, List, [], ◌∷◌, length, get_or, map, All, Option, Some, None, refl, sym, ap, ◌∙◌, subst, arith, slice_get, slice_index, unwrap_or, option_map}
+use Rattle.std.proofs.Common.{◌≡◌, ℕ, zero, suc, List, [], ◌∷◌, map, Option, Some, None, refl, ap, ◌∙◌, arith, slice_get, slice_index, unwrap_or, option_map}
 use Rattle.std.specs.List.{AllByRecursion}
 use Rattle.std.specs.Option.{option_and_then}
-use Rattle.std.proofs.lemmas.List.{length-map, get_or-map}
-use Rattle.std.proofs.lemmas.Option.{slice_get_within, unwrap_or-slice_get}
+use Rattle.std.proofs.lemmas.Option.{unwrap_or-slice_get}
 use Rattle.dt_base.specs.Rows.{row_major}
 use Rattle.dt_model.specs.WholeTensor.{number_at, IsWhole}
 use Rattle.dt_model.specs.Positions.{StoredTensor, place_in, tensor_at}
 use Rattle.dt_model.specs.Stmts.{shapes_of}
-use Rattle.dt_model.specs.declared.stmt.Stmt.{Stmt}
 use Rattle.dt_nest.specs.World.{entries_of}
 use Rattle.dt_tensor.specs.Packed.{Packed, stored_of, whole_of, number_in}
-use Rattle.dt_tensor.proofs.Assignments.{position-assignments}
 use Rattle.dt_tensor.proofs.Tables.{length-table, table-there}
-use Rattle.dt_job.specs.Jobs.{IsJobStmt, IsJobTensor}
-use Rattle.dt_job.specs.PartsOf.{ArePartsOf, IsPartOf}
-use Rattle.dt_job.specs.declared.parts.Part.{Part}
-use Rattle.dt_run.specs.Running.{AreOver, StoresAll, WritesDense}
-use Rattle.dt_run.proofs.PartRuns.{none, count_parts, part_at}
+use Rattle.dt_run.specs.Running.{AreOver}
 use Rattle.dt_run.proofs.WholeSets.{entries_past}
 
 given_shapes : (ts : List Packed) → map (λ (t : StoredTensor). t.extents) (map stored_of ts) ≡ shapes_of (map whole_of ts)
@@ -48,19 +41,3 @@ given_zeros (x ∷ ts) (suc t) c e = given_zeros ts t c e
 -- tensors as they are given are over what they store
 pub given_over : (ts : List Packed) → AreOver (map stored_of ts) (map whole_of ts)
 given_over ts = record { shapes = given_shapes ts; whole = given_wholes ts; zeros = given_zeros ts }
-
--- each tensor of a job stores each index
-stores_all : (ts : List Packed) (t : ℕ) → All IsJobTensor ts → t < length ts → StoresAll (tensor_at (map stored_of ts) t)
-stores_all ts t h l =
-    let nothing : Packed = record { extents = []; compressed = []; coords = []; values = [] } in
-    let is : tensor_at (map stored_of ts) t ≡ stored_of (get_or ts t nothing) = get_or-map stored_of ts t nothing (record { extents = []; compressed = []; coords = [] }) l in
-    subst StoresAll (sym (is ∙ ap stored_of (h t nothing l).dense)) (λ c e. sym (position-assignments (get_or ts t nothing).extents c) ∙ e)
-
--- so the parts write dense tensors
-pub write_dense : (ts : List Packed) (names : List (List ℕ)) (stmts : List Stmt) (parts : List Part) → All IsJobTensor ts → All (IsJobStmt (map (λ t. t.extents) ts)) stmts
-    → ArePartsOf (map stored_of ts) names stmts parts → All (WritesDense (map stored_of ts)) parts
-write_dense ts names stmts parts tensors each h = λ k d l.
-    let room : k < length stmts = omega (arith, l, count_parts (map stored_of ts) names stmts parts h) in
-    let is : IsPartOf (map stored_of ts) names (get_or stmts k none) (get_or parts k d) = part_at (map stored_of ts) names stmts parts k none d h l in
-    let inside : (get_or stmts k none).lhs.tensor < length ts = omega (arith, slice_get_within (map (λ t. t.extents) ts) (get_or stmts k none).lhs.tensor _ (each k none room).stands.target.fits, length-map ts (λ (t : Packed). t.extents)) in
-    subst (λ (t : ℕ). StoresAll (tensor_at (map stored_of ts) t)) (sym is.output) (stores_all ts (get_or stmts k none).lhs.tensor tensors inside)

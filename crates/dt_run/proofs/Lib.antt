@@ -1,6 +1,6 @@
-pub mod Fronts
+pub mod CutRows
+pub mod EndTensors
 pub mod GivenTensors
-pub mod Joins
 pub mod OverStored
 pub mod PartRuns
 pub mod Parts

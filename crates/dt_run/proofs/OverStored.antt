@@ -9,7 +9,7 @@ use Rattle.dt_model.specs.WholeTensor.{WholeTensor, number_at, IsWhole}
 use Rattle.dt_model.specs.Positions.{StoredTensor, place_in, tensor_at}
 use Rattle.dt_model.specs.Stmts.{shapes_of}
 use Rattle.dt_nest.specs.FitsStored.{FitsStored}
-use Rattle.dt_nest.specs.Inside.{length_shapes}
+use Rattle.dt_nest.proofs.Inside.{length_shapes}
 use Rattle.dt_nest.specs.Schedule.{Schedule}
 use Rattle.dt_nest.specs.World.{Fits, entries_of}
 use Rattle.dt_run.specs.Running.{AreOver}

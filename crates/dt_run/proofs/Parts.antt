@@ -15,13 +15,13 @@ use Rattle.dt_model.specs.Value.{number_after, left_after, tensors_after, value_
 use Rattle.dt_model.specs.declared.stmt.Stmt.{Stmt}
 use Rattle.dt_nest.specs.Tree.{Tree, Loop, Pre, Leaf}
 use Rattle.dt_nest.specs.Schedule.{Schedule}
-use Rattle.dt_nest.specs.FitsStored.{fits_stored}
+use Rattle.dt_nest.proofs.Inside.{fits_stored}
 use Rattle.dt_nest.specs.World.{world_of, entries_of, sum_of}
 use Rattle.dt_nest.specs.Lawful.{IsNamed, IsLawful}
 use Rattle.dt_nest.specs.Outputs.{output_of, reads_of}
 use Rattle.dt_nest.proofs.Congruence.{like_same, is_read, reads_free, nest_sum-like}
 use Rattle.dt_nest.proofs.OwnSlots.{zero_at}
-use Rattle.dt_tensor.proofs.Assignments.{length-assignments, row_major-assignment}
+use Rattle.dt_base.proofs.Assignments.{length-assignments, row_major-assignment}
 use Rattle.dt_run.specs.Visiting.{IsRunnable, IsStmtOf, left_with_sum, tensors_with_sum, tensors_cleared}
 use Rattle.dt_run.proofs.OverStored.{fits_over, over_fitting, set_shapes, set_over}
 use Rattle.dt_run.proofs.WholeSets.{slice_get-set_same, slice_get-set_other}

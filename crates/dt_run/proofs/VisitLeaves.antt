@@ -12,18 +12,18 @@ use Rattle.dt_model.specs.declared.shape.Shape.{Shape}
 use Rattle.dt_model.specs.declared.stmt.Access.{Access}
 use Rattle.dt_model.proofs.ShapeFacts.{ExtentFacts, extent_facts, extent_most}
 use Rattle.dt_nest.specs.declared.loops.Walk.{Walk}
-use Rattle.dt_nest.specs.declared.loops.Pair.{Pair}
 use Rattle.dt_nest.specs.Tree.{Tree, Loop, Pre, Leaf, is_kernel_leaf, accesses_of}
 use Rattle.dt_nest.specs.Schedule.{Schedule}
 use Rattle.dt_nest.specs.World.{world_of, FitsAccess}
 use Rattle.dt_nest.specs.Lawful.{AccessBelow, IsNamed, IsLawful}
 use Rattle.dt_nest.specs.Outputs.{output_of}
-use Rattle.dt_nest.specs.Each.{all_append, all_map}
-use Rattle.dt_nest.specs.Truth.{all_and}
-use Rattle.dt_nest.specs.Agree.{all_parts}
-use Rattle.dt_nest.specs.Fitting.{named_accesses}
-use Rattle.dt_nest.specs.FitsStored.{FitsStored, fits_stored}
-use Rattle.dt_nest.specs.Visits.{LeafNode, Item, IsVisit, Tests, no_slots, tests_of, with_reset, values_on, lane_visit, valid_values, substituted_visits, tree_visits, visits_of}
+use Rattle.dt_nest.proofs.Each.{all_append, all_map}
+use Rattle.dt_nest.proofs.Truth.{all_and}
+use Rattle.dt_nest.proofs.Agree.{all_parts}
+use Rattle.dt_nest.proofs.NamedAccesses.{named_accesses}
+use Rattle.dt_nest.specs.FitsStored.{FitsStored}
+use Rattle.dt_nest.proofs.Inside.{fits_stored}
+use Rattle.dt_nest.specs.Visits.{Scope, at_root, entered, in_producer, LeafNode, Item, IsVisit, Tests, no_slots, tests_of, with_reset, values_on, lane_visit, valid_values, substituted_visits, tree_visits, visits_of}
 use Rattle.dt_nest.proofs.Pruned.{stored_each}
 use Rattle.dt_run.specs.AtVisit.{IsAccessOver}
 use Rattle.dt_run.specs.Visiting.{IsRunnable, IsLeafOver, IsItemOver}
@@ -39,43 +39,43 @@ all_flat_map P f [] h = tt
 all_flat_map P f (x ∷ xs) h = all_append P (f x) (flat_map f xs) (h x) (all_flat_map P f xs h)
 
 module _ (t : Tests) (shapes : List (List ℕ)) (s : Schedule) where
-  lane_over : (leaf : LeafNode) (pairs : List Pair) (slots : List ℕ) (v n : ℕ) (valid : List ℕ) → IsLeafOver shapes s leaf → AllByRecursion (IsItemOver shapes s) (lane_visit leaf pairs slots v n valid)
-  lane_over leaf pairs slots v n [] h = tt
-  lane_over leaf pairs slots v n (x ∷ valid) h = (h, tt)
+  lane_over : (leaf : LeafNode) (scope : Scope) (slots : List ℕ) (v n : ℕ) (valid : List ℕ) → IsLeafOver shapes s leaf → AllByRecursion (IsItemOver shapes s) (lane_visit leaf scope slots v n valid)
+  lane_over leaf scope slots v n [] h = tt
+  lane_over leaf scope slots v n (x ∷ valid) h = (h, tt)
 
-  lanes_over : (walk : Option Walk) (v n : ℕ) (body : Tree) (pairs : List Pair) (slots : List ℕ) → LeavesOver shapes s body → AllByRecursion (IsItemOver shapes s) (substituted_visits t walk v n body pairs slots)
-  lanes_over walk v n (Loop u m more inner) pairs slots h = tt
-  lanes_over walk v n (Pre work more p q) pairs slots h = tt
-  lanes_over walk v n (Leaf lhs terms guards kernel) pairs slots h =
-      lane_over (record { lhs = lhs; terms = terms; guards = guards; kernel = kernel }) pairs slots v n (valid_values t walk v n guards pairs slots) h
+  lanes_over : (walk : Option Walk) (v n : ℕ) (body : Tree) (scope : Scope) (slots : List ℕ) → LeavesOver shapes s body → AllByRecursion (IsItemOver shapes s) (substituted_visits t walk v n body scope slots)
+  lanes_over walk v n (Loop u m more inner) scope slots h = tt
+  lanes_over walk v n (Pre work more p q) scope slots h = tt
+  lanes_over walk v n (Leaf lhs terms guards kernel) scope slots h =
+      lane_over (record { lhs = lhs; terms = terms; guards = guards; kernel = kernel }) scope slots v n (valid_values t walk v n guards scope.pairs slots) h
 
   reset_over : (work : ℕ) (items : List Item) → AllByRecursion (IsItemOver shapes s) items → AllByRecursion (IsItemOver shapes s) (with_reset work items)
   reset_over work [] h = tt
   reset_over work (item ∷ items) h = (tt, h)
 
   -- the visits of a tree are of its leaves
-  pub tree_over : (tree : Tree) (pairs : List Pair) (slots path : List ℕ) → LeavesOver shapes s tree → AllByRecursion (IsItemOver shapes s) (tree_visits t tree pairs slots path)
-  tree_over (Loop v n walk body) pairs slots path h =
-      go (is_kernel_leaf body) (lanes_over walk v n body pairs slots h)
-      (all_flat_map (IsItemOver shapes s) (λ i. if t.takes walk v pairs (slice_set slots v i) then tree_visits t body pairs (slice_set slots v i) (drop 1 path) else []) (values_on path n)
-      (λ i. taken (t.takes walk v pairs (slice_set slots v i)) (tree_visits t body pairs (slice_set slots v i) (drop 1 path)) (tree_over body pairs (slice_set slots v i) (drop 1 path) h)))
+  pub tree_over : (tree : Tree) (scope : Scope) (slots path : List ℕ) → LeavesOver shapes s tree → AllByRecursion (IsItemOver shapes s) (tree_visits t tree scope slots path)
+  tree_over (Loop v n walk body) scope slots path h =
+      go (is_kernel_leaf body) (lanes_over walk v n body scope slots h)
+      (all_flat_map (IsItemOver shapes s) (λ i. if t.takes walk v scope.pairs (slice_set slots v i) then tree_visits t body (entered scope v) (slice_set slots v i) (drop 1 path) else []) (values_on path n)
+      (λ i. taken (t.takes walk v scope.pairs (slice_set slots v i)) (tree_visits t body (entered scope v) (slice_set slots v i) (drop 1 path)) (tree_over body (entered scope v) (slice_set slots v i) (drop 1 path) h)))
     where
       taken : (b : Bool) (l : List Item) → AllByRecursion (IsItemOver shapes s) l → AllByRecursion (IsItemOver shapes s) (if b then l else [])
       taken true l h = h
       taken false l h = tt
 
-      go : (b : Bool) → AllByRecursion (IsItemOver shapes s) (substituted_visits t walk v n body pairs slots)
-          → AllByRecursion (IsItemOver shapes s) (flat_map (λ i. if t.takes walk v pairs (slice_set slots v i) then tree_visits t body pairs (slice_set slots v i) (drop 1 path) else []) (values_on path n))
-          → AllByRecursion (IsItemOver shapes s) (if b then substituted_visits t walk v n body pairs slots
-          else flat_map (λ i. if t.takes walk v pairs (slice_set slots v i) then tree_visits t body pairs (slice_set slots v i) (drop 1 path) else []) (values_on path n))
+      go : (b : Bool) → AllByRecursion (IsItemOver shapes s) (substituted_visits t walk v n body scope slots)
+          → AllByRecursion (IsItemOver shapes s) (flat_map (λ i. if t.takes walk v scope.pairs (slice_set slots v i) then tree_visits t body (entered scope v) (slice_set slots v i) (drop 1 path) else []) (values_on path n))
+          → AllByRecursion (IsItemOver shapes s) (if b then substituted_visits t walk v n body scope slots
+          else flat_map (λ i. if t.takes walk v scope.pairs (slice_set slots v i) then tree_visits t body (entered scope v) (slice_set slots v i) (drop 1 path) else []) (values_on path n))
       go true a b = a
       go false a b = b
-  tree_over (Pre work more p q) pairs slots path h =
-      reset_over work (tree_visits t p (pairs ++ more) slots [] ++ tree_visits t q pairs slots [])
-      (all_append (IsItemOver shapes s) (tree_visits t p (pairs ++ more) slots []) (tree_visits t q pairs slots []) (tree_over p (pairs ++ more) slots [] h.0) (tree_over q pairs slots [] h.1))
-  tree_over (Leaf lhs terms guards kernel) pairs slots path h = go (t.holds guards pairs slots)
+  tree_over (Pre work more p q) scope slots path h =
+      reset_over work (tree_visits t p (in_producer scope more) slots [] ++ tree_visits t q scope slots [])
+      (all_append (IsItemOver shapes s) (tree_visits t p (in_producer scope more) slots []) (tree_visits t q scope slots []) (tree_over p (in_producer scope more) slots [] h.0) (tree_over q scope slots [] h.1))
+  tree_over (Leaf lhs terms guards kernel) scope slots path h = go (t.holds guards scope.pairs slots)
     where
-      go : (b : Bool) → AllByRecursion (IsItemOver shapes s) (if b then IsVisit (record { leaf = record { lhs = lhs; terms = terms; guards = guards; kernel = kernel }; pairs = pairs; slots = slots; lanes = None }) ∷ [] else [])
+      go : (b : Bool) → AllByRecursion (IsItemOver shapes s) (if b then IsVisit (record { leaf = record { lhs = lhs; terms = terms; guards = guards; kernel = kernel }; around = scope.around; pairs = scope.pairs; slots = slots; lanes = None }) ∷ [] else [])
       go true = (h, tt)
       go false = tt
 
@@ -140,7 +140,7 @@ accesses_over stored tensors s r lawful =
 pub visits_over : (stored : List StoredTensor) (tensors : List WholeTensor) (s : Schedule) → IsRunnable stored tensors s → IsLawful s → AllByRecursion (IsItemOver (shapes_of tensors) s) (visits_of stored s [])
 unfolding visits_of
 visits_over stored tensors s r lawful =
-    tree_over (tests_of (world_of stored s) s.derived) (shapes_of tensors) s s.nest [] (no_slots s) []
+    tree_over (tests_of (world_of stored s) s.derived) (shapes_of tensors) s s.nest at_root (no_slots s) []
     (leaves_over s r.workless (shapes_of tensors) s.nest lawful.named refl (accesses_over stored tensors s r lawful))
 
 -- the left tensor is one of the tensors

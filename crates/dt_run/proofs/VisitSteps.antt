@@ -24,9 +24,9 @@ use Rattle.dt_nest.specs.Outputs.{output_of}
 use Rattle.dt_nest.specs.Visits.{LeafVisit, Item, IsVisit}
 use Rattle.dt_nest.specs.Effects.{with_more, effect_of, visit_sum, entries_after, AddsItsSum}
 use Rattle.dt_nest.specs.Run.{Run, SameNest, run_over}
-use Rattle.dt_tensor.proofs.Assignments.{row_major-assignment}
+use Rattle.dt_base.proofs.Assignments.{row_major-assignment}
 use Rattle.dt_tensor.proofs.Tables.{length-table, table-there}
-use Rattle.dt_run.specs.AtVisit.{visit_in, visit_of, env_at}
+use Rattle.dt_nest.specs.Point.{visit_in, visit_of, env_at}
 use Rattle.dt_run.specs.Visiting.{IsRunnable, left_with_sum, tensors_with_sum, IsItemOver, IsReady, HasGoneOn}
 use Rattle.dt_run.proofs.VisitLeaves.{visits_over}
 use Rattle.dt_run.proofs.WholeSets.{entries_there}

@@ -15,13 +15,14 @@ use Rattle.dt_nest.specs.Tree.{factor_accesses, read_accesses}
 use Rattle.dt_nest.specs.Meaning.{World, Entries, terms_of, renamed}
 use Rattle.dt_nest.specs.World.{world_of}
 use Rattle.dt_nest.specs.Lawful.{Follows}
-use Rattle.dt_nest.specs.Each.{all_map, all_get}
-use Rattle.dt_nest.specs.Agree.{all_parts}
+use Rattle.dt_nest.proofs.Each.{all_map, all_get}
+use Rattle.dt_nest.proofs.Agree.{all_parts}
 use Rattle.dt_nest.specs.Visits.{Lanes, LeafVisit, Item, IsReset, IsVisit, value_in, slots_of}
 use Rattle.dt_nest.specs.Effects.{visit_sum}
 use Rattle.dt_nest.specs.Run.{Run, OnVisit, OnLanes, HasValue, HasLaneValue, AreAscending, among, with_lane, is_among}
 use Rattle.dt_nest.proofs.Moves.{range-add}
-use Rattle.dt_run.specs.AtVisit.{visit_in, visit_of, with_value, env_at, MayRead, AreCoordinates, IsFactorAt, IsTermAt, IsAccessOver, valid_in, valid_of}
+use Rattle.dt_nest.specs.Point.{visit_in, visit_of, env_at, valid_in, valid_of, slots_with, IsPoint, HasValueAt}
+use Rattle.dt_run.specs.AtVisit.{AreCoordinates, IsFactorAt, IsTermAt, IsAccessOver}
 
 -- facts on a visit, and on its substituted loop
 pub on_visit_map : (P Q : LeafVisit → Type 0) (last : Option Item) → (P (visit_in last) → Q (visit_in last)) → OnVisit last P → OnVisit last Q
@@ -37,37 +38,25 @@ pub on_lanes_map : (P Q : Lanes → Type 0) (r : Run) → ((l : Lanes) → P l �
 on_lanes_map P Q r f h = on_visit_map (λ visit. MatchOption visit.lanes ⊥ P) (λ visit. MatchOption visit.lanes ⊥ Q) r.last (match_lanes P Q (visit_in r.last).lanes f) h
 
 -- a substituted loop's valid values where a run stands
-valid_there : (y : ℕ) (b : Bool) (lanes : Option Lanes) → MatchOption lanes ⊥ (λ l. b ≡ is_among y l.valid) → b ≡ is_among y (valid_in lanes)
-valid_there y b None h = absurd h
-valid_there y b (Some l) h = h
-
-pub valid_is : (r : Run) (y : ℕ) (b : Bool) → OnLanes r (λ lanes. b ≡ is_among y lanes.valid) → b ≡ is_among y (valid_of r)
-valid_is r y b h = valid_there y b (visit_of r).lanes (take r.last h)
-  where
-    take : (last : Option Item) → OnVisit last (λ visit. MatchOption visit.lanes ⊥ (λ l. b ≡ is_among y l.valid)) → MatchOption (visit_in last).lanes ⊥ (λ l. b ≡ is_among y l.valid)
-    take None h = absurd h
-    take (Some (IsReset work)) h = absurd h
-    take (Some (IsVisit visit)) h = h
-
 -- where no loop is substituted a variable has a value without one
 pub lane_free : (r : Run) → (visit_of r).lanes ≡ None → (u : ℕ) → HasLaneValue r u → HasValue r u
 lane_free r e u h =
-    on_visit_map (λ visit. Follows r.sched.derived (with_lane visit.lanes (among r.around)) (renamed visit.pairs) (renamed visit.pairs u)) (λ visit. Follows r.sched.derived (among r.around) (renamed visit.pairs) (renamed visit.pairs u)) r.last
-    (λ k. subst (λ (o : Option Lanes). Follows r.sched.derived (with_lane o (among r.around)) (renamed (visit_in r.last).pairs) (renamed (visit_in r.last).pairs u)) e k) h
+    on_visit_map (λ visit. Follows r.sched.derived (with_lane visit.lanes (among visit.around)) (renamed visit.pairs) (renamed visit.pairs u)) (λ visit. Follows r.sched.derived (among visit.around) (renamed visit.pairs) (renamed visit.pairs u)) r.last
+    (λ k. subst (λ (o : Option Lanes). Follows r.sched.derived (with_lane o (among (visit_in r.last).around)) (renamed (visit_in r.last).pairs) (renamed (visit_in r.last).pairs u)) e k) h
 
 -- Terms ---------------------------------------------------------------------------------------------------------------
 
 -- the variables of an access over the tensors give coordinates
-pub are_coordinates : (r : Run) (lane : Option ℕ) (shapes : List (List ℕ)) (a : Access) → IsAccessOver shapes r.sched.extents a → AllByRecursion (MayRead r lane) a.vars → AreCoordinates r lane a.vars
-are_coordinates r lane shapes a o h = record { few = o.few; valued = λ k d l. all_get (MayRead r lane) a.vars k d h l; small = o.small }
+pub are_coordinates : (r : Run) (lane : Option ℕ) (shapes : List (List ℕ)) (a : Access) → IsPoint r lane → IsAccessOver shapes r.sched.extents a → AllByRecursion (HasValueAt r lane) a.vars → AreCoordinates r lane a.vars
+are_coordinates r lane shapes a p o h = record { few = o.few; point = p; valued = λ k d l. all_get (HasValueAt r lane) a.vars k d h l; small = o.small }
 
-module _ (r : Run) (lane : Option ℕ) (shapes : List (List ℕ)) (may : (u : ℕ) → HasLaneValue r u → MayRead r lane u) where
+module _ (r : Run) (lane : Option ℕ) (shapes : List (List ℕ)) (point : IsPoint r lane) (may : (u : ℕ) → HasLaneValue r u → HasValueAt r lane u) where
   -- an access over the tensors, whose variables have values
   abbrev IsRead : Access → Type 0
   IsRead a = IsAccessOver shapes r.sched.extents a × AllByRecursion (HasLaneValue r) a.vars
 
   factor_at : (f : Factor) → AllByRecursion IsRead (factor_accesses f) → IsFactorAt r lane f
-  factor_at (Read a) h = are_coordinates r lane shapes a h.0.0 (all_map (HasLaneValue r) (MayRead r lane) may a.vars h.0.1)
+  factor_at (Read a) h = are_coordinates r lane shapes a point h.0.0 (all_map (HasLaneValue r) (HasValueAt r lane) may a.vars h.0.1)
   factor_at (Literal n) h = tt
 
   factors_at : (fs : List Factor) → AllByRecursion IsRead (flat_map factor_accesses fs) → AllByRecursion (IsFactorAt r lane) fs
@@ -95,7 +84,7 @@ module _ (w : World) (ds : List Derived) (x : Entries) (visit : LeafVisit) where
   sum_once e = ap Over e ∙ omega (arith, sum_by-cons (λ val. terms_of x val visit.leaf.terms) (value_in w ds visit.pairs visit.slots) [])
 
   over_lanes : (extent : ℕ) (lanes : Option Lanes) → Some extent ≡ option_map (λ (l : Lanes). l.extent) lanes → AreAscending lanes
-      → Over lanes ≡ sum_by (λ y. terms_of x (value_in w ds visit.pairs (with_value visit.slots lanes y)) visit.leaf.terms) (filter (λ y. is_among y (valid_in lanes)) (range_with_len 0 extent))
+      → Over lanes ≡ sum_by (λ y. terms_of x (value_in w ds visit.pairs (slots_with visit.slots lanes (Some y))) visit.leaf.terms) (filter (λ y. is_among y (valid_in lanes)) (range_with_len 0 extent))
   over_lanes extent None e a = absurd (cc)
   over_lanes extent (Some l) e a =
       let n : l.extent ≡ extent = cc in
@@ -115,7 +104,7 @@ pub visit_lanes : (r : Run) (x : Entries) (terms : List Term) (extent : ℕ) →
     → sum_by (λ y. terms_of x (env_at r (Some y)) terms) (filter (λ y. is_among y (valid_of r)) (range_with_len 0 extent)) ≡ visit_sum (world_of r.stored r.sched) r.sched.derived x (visit_of r)
 unfolding env_at
 visit_lanes r x terms extent e a t =
-    ap (λ (ts : List Term). sum_by (λ y. terms_of x (value_in (world_of r.stored r.sched) r.sched.derived (visit_of r).pairs (with_value (visit_of r).slots (visit_of r).lanes y)) ts) (filter (λ y. is_among y (valid_of r)) (range_with_len 0 extent))) t
+    ap (λ (ts : List Term). sum_by (λ y. terms_of x (value_in (world_of r.stored r.sched) r.sched.derived (visit_of r).pairs (slots_with (visit_of r).slots (visit_of r).lanes (Some y))) ts) (filter (λ y. is_among y (valid_of r)) (range_with_len 0 extent))) t
     ∙ sym (over_lanes (world_of r.stored r.sched) r.sched.derived x (visit_of r) extent (visit_of r).lanes e a)
 
 -- one more value of a substituted loop

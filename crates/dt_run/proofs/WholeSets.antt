@@ -16,7 +16,7 @@ use Rattle.dt_model.specs.Stmts.{shapes_of}
 use Rattle.dt_nest.specs.Meaning.{with_work}
 use Rattle.dt_nest.specs.World.{entries_of}
 use Rattle.dt_nest.specs.Effects.{with_more}
-use Rattle.dt_tensor.proofs.Assignments.{assignment-row_major}
+use Rattle.dt_base.proofs.Assignments.{assignment-row_major}
 
 -- an element after a write
 pub slice_get-set_same : {A : Type 0} (xs : List A) (k : ℕ) (x : A) → k < length xs → slice_get (slice_set xs k x) k ≡ Some x

@@ -1,52 +1,18 @@
--- What is read where a run over visits stands: the values of variables, and the numbers of tensors.
-use Rattle.std.specs.Prelude.{◌≡◌, ℕ, ◌≤◌, true, List, [], length, map, All, Option, Some, None, slice_get, slice_index, slice_set}
+-- What is read where a run over visits stands.
+use Rattle.std.specs.Prelude.{◌≡◌, ℕ, ◌≤◌, List, length, map, All, Option, Some, slice_get, slice_index}
 use Rattle.dt_model.specs.declared.stmt.Access.{Access}
 use Rattle.dt_model.specs.declared.stmt.Factor.{Factor}
 use Rattle.dt_model.specs.declared.stmt.Factor.TheVariants.{Read, Literal}
 use Rattle.dt_model.specs.declared.stmt.Term.{Term}
-use Rattle.dt_nest.specs.declared.loops.Kernel.TheVariants.{Plain}
-use Rattle.dt_nest.specs.Meaning.{Env}
-use Rattle.dt_nest.specs.World.{world_of}
-use Rattle.dt_nest.specs.Visits.{Lanes, LeafVisit, Item, IsReset, IsVisit, value_in}
-use Rattle.dt_nest.specs.Run.{Run, OnLanes, HasValue, HasLaneValue, is_among}
+use Rattle.dt_nest.specs.Point.{IsPoint, HasValueAt}
+use Rattle.dt_nest.specs.Run.{Run}
 
--- a visit of nothing
-abbrev pub no_visit : LeafVisit
-no_visit = record { leaf = record { lhs = record { tensor = 0; vars = [] }; terms = []; guards = []; kernel = Plain }; pairs = []; slots = []; lanes = None }
-
--- the visit that an item is, and that of nothing where it is none
-abbrev pub visit_in : Option Item → LeafVisit
-visit_in None = no_visit
-visit_in (Some (IsReset work)) = no_visit
-visit_in (Some (IsVisit visit)) = visit
-
--- the visit where a run stands
-abbrev pub visit_of : Run → LeafVisit
-visit_of r = visit_in r.last
-
--- the slots where a substituted loop, if there is one, has this value
-abbrev pub with_value : List ℕ → Option Lanes → ℕ → List ℕ
-with_value slots None y = slots
-with_value slots (Some lanes) y = slice_set slots lanes.var y
-
--- the slots of a visit, where its substituted loop has the value that is given
-abbrev pub slots_at : LeafVisit → Option ℕ → List ℕ
-slots_at visit None = visit.slots
-slots_at visit (Some y) = with_value visit.slots visit.lanes y
-
--- the values of the variables where a run stands
-unfoldable pub env_at : Run → Option ℕ → Env
-env_at r lane = value_in (world_of r.stored r.sched) r.sched.derived (visit_of r).pairs (slots_at (visit_of r) lane)
-
--- the variable has a value there, and what is given is a valid value of the substituted loop
-abbrev pub MayRead : Run → Option ℕ → ℕ → Type 0
-MayRead r None u = HasValue r u
-MayRead r (Some y) u = OnLanes r (λ lanes. is_among y lanes.valid ≡ true) × HasLaneValue r u
-
--- Variables that give coordinates where a run stands: at most four, each with a value and of a small extent.
+-- Variables that give coordinates at a point of the visit where a run stands: at most four, each with a value and of a
+-- small extent.
 pub record AreCoordinates (r : Run) (lane : Option ℕ) (vars : List ℕ) : Type 0 where
   pub few : length vars ≤ 4
-  pub valued : All (MayRead r lane) vars
+  pub point : IsPoint r lane
+  pub valued : All (HasValueAt r lane) vars
   pub small : All (λ u. slice_index r.sched.extents u ≤ 4096) vars
 
 -- a literal, or an access whose variables give coordinates
@@ -63,12 +29,3 @@ pub record IsAccessOver (shapes : List (List ℕ)) (extents : List ℕ) (a : Acc
   pub few : length a.vars ≤ 4
   pub small : All (λ u. slice_index extents u ≤ 4096) a.vars
   pub fits : slice_get shapes a.tensor ≡ Some (map (slice_index extents) a.vars)
-
--- the valid values of a substituted loop, if there is one
-abbrev pub valid_in : Option Lanes → List ℕ
-valid_in None = []
-valid_in (Some lanes) = lanes.valid
-
--- those where a run stands
-abbrev pub valid_of : Run → List ℕ
-valid_of r = valid_in (visit_of r).lanes

@@ -1,23 +1,22 @@
 -- What the top call promises at each status.
-use Rattle.std.specs.Prelude.{◌≡◌, ℕ, List, [], ◌∷◌, codes, Option, ◌⊎◌, Bool, false}
-use Rattle.std.specs.Str.{bytes_eq}
+use Rattle.std.specs.Prelude.{◌≡◌, ℕ, List, Option, IfSome, ◌⊎◌}
 use Rattle.std.specs.Io.KnownBytes.{Appends}
 use Rattle.dt_io.specs.Faults.{Rose, AppendsPrefix}
 use Rattle.dt_run.specs.declared.answering.Answer.{Answer}
 use Rattle.dt_run.specs.declared.answering.Answer.TheVariants.{Text, Refusal}
 use Rattle.dt_run.specs.declared.status.Status.{Status}
 use Rattle.dt_run.specs.declared.status.Status.TheVariants as status
-use Rattle.dt_run.specs.Outcome.{Outcome}
-
--- whether the words are `run` alone
-abbrev pub are_run_words : List (List ℕ) → Bool
-are_run_words (word ∷ []) = bytes_eq word (codes "run")
-are_run_words _ = false
+use Rattle.dt_run.specs.Forms.{asked_bytes, form_of}
+use Rattle.dt_run.specs.Outcome.{Outcome, outcome_of}
 
 -- the outcome that an answer stands for
 abbrev pub outcome_in : Answer → Outcome
 outcome_in (Text text) = record { status = status.Done; text = text }
 outcome_in (Refusal text) = record { status = status.Refused; text = text }
+
+-- where the bytes that the words ask for are told, the outcome for them has the property
+abbrev pub IfTold : List (List ℕ) → Option (List ℕ) → (Outcome → Type 0) → Type 0
+IfTold words left P = IfSome (asked_bytes (form_of words) left) (λ bytes. P (outcome_of words bytes))
 
 -- the outcome has this status, and the bytes written grew by exactly its text
 abbrev pub Answers : Status → Outcome → Option (List ℕ) → Option (List ℕ) → Type 0

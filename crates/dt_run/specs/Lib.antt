@@ -1,8 +1,9 @@
 pub mod AtVisit
-pub mod CauseText
 pub mod Clauses
+pub mod Forms
 pub mod Limits
 pub mod Outcome
+pub mod Refusals
 pub mod Running
 pub mod TensorText
 pub mod Visiting

@@ -1,18 +1,23 @@
--- What the program answers to an input: a status and a text.
-use Rattle.std.specs.Prelude.{ℕ, List, [], ◌++◌, length, codes, map, nat_lt, if◌then◌else◌, option_map, unwrap_or, slice_get, Result, Ok, Err}
-use Rattle.std.specs.List.{flat_map}
+-- What the program answers to its words and an input: a status and a text.
+use Rattle.std.specs.Prelude.{ℕ, List, [], ◌++◌, length, codes, map, nat_lt, if◌then◌else◌, Option, Some, None, option_map, unwrap_or, slice_get, Result, Ok, Err}
+use Rattle.std.specs.List.{flat_map, zip}
 use Rattle.std.specs.Option.{option_and_then}
-use Rattle.dt_model.specs.WholeTensor.{WholeTensor}
+use Rattle.dt_model.specs.Positions.{StoredTensor}
+use Rattle.dt_model.specs.WholeTensor.{WholeTensor, number_at}
 use Rattle.dt_model.specs.Value.{final_of}
 use Rattle.dt_model.specs.declared.cause.Cause.{Cause}
 use Rattle.dt_job.specs.declared.job.Job.{Job}
-use Rattle.dt_tensor.specs.Packed.{whole_of}
+use Rattle.dt_tensor.specs.Packed.{Packed, stored_of, whole_of}
 use Rattle.dt_job.specs.declared.outputs.Show.{Show}
 use Rattle.dt_job.specs.declared.outputs.Show.TheVariants as show
 use Rattle.dt_job.specs.Read.{job_of}
-use Rattle.dt_run.specs.CauseText.{line_end, refused_line_text, refused_plan_text}
-use Rattle.dt_run.specs.Limits.{has_too_many_visits}
+use Rattle.dt_run.specs.Forms.{form_of}
+use Rattle.dt_run.specs.Limits.{plan_cause_of}
+use Rattle.dt_run.specs.Refusals.{line_end, refused_line_text, refused_plan_text, too_long_text}
 use Rattle.dt_run.specs.TensorText.{tensor_text}
+use Rattle.dt_run.specs.declared.form.Form.{Form}
+use Rattle.dt_run.specs.declared.form.Form.TheVariants as form
+use Rattle.dt_run.specs.declared.plan_cause.PlanCause.{PlanCause}
 use Rattle.dt_run.specs.declared.status.Status.{Status}
 use Rattle.dt_run.specs.declared.status.Status.TheVariants as status
 
@@ -21,41 +26,64 @@ pub record Outcome : Type 0 where
   pub status : Status
   pub text : List ℕ
 
+-- a tensor that stores these coordinates, with the numbers that a whole one has there
+abbrev pub packed_with : StoredTensor → WholeTensor → Packed
+packed_with s w = record { extents = s.extents; compressed = s.compressed; coords = s.coords; values = map (λ c. unwrap_or (number_at w c) 0) s.coords }
+
 -- the tensor with this number as it is printed, by its name
-abbrev pub print_text : List (List ℕ) → List WholeTensor → ℕ → List ℕ
+abbrev pub print_text : List (List ℕ) → List Packed → ℕ → List ℕ
 print_text names tensors k = unwrap_or (option_and_then (λ name. option_map (tensor_text name) (slice_get tensors k)) (slice_get names k)) []
 
 -- what an output writes
-abbrev pub show_text : List (List ℕ) → List WholeTensor → Show → List ℕ
+abbrev pub show_text : List (List ℕ) → List Packed → Show → List ℕ
 show_text names tensors (show.Print k) = print_text names tensors k
 
 -- the tensors of a job as they are given
 abbrev pub given_of : Job → List WholeTensor
 given_of j = map whole_of j.tensors
 
+-- the tensors of a job after all statements, each as it is stored
+abbrev pub ends_of : Job → List Packed
+ends_of j = map (λ p. packed_with p.0 p.1) (zip (map stored_of j.tensors) (final_of j.stmts (given_of j)))
+
 -- what a run writes: its head, and each output of the tensors after all statements
 abbrev pub run_text : Job → List ℕ
-run_text j = codes "distal run" ++ line_end ++ flat_map (show_text j.names (final_of j.stmts (given_of j))) j.shows
-
--- what is written for an input that is too long
-abbrev pub too_long_text : List ℕ
-too_long_text = codes "refused input: TooLong" ++ line_end
+run_text j = codes "distal run" ++ line_end ++ flat_map (show_text j.names (ends_of j)) j.shows
 
 -- the most bytes of an input
 abbrev pub input_limit : ℕ
 input_limit = 16777216
 
--- a job within the limits is run
-abbrev pub outcome_of_job : Job → Outcome
-outcome_of_job j =
-    if has_too_many_visits j.parts then record { status = status.Refused; text = refused_plan_text (codes "TooManyVisits") }
-    else record { status = status.Done; text = run_text j }
+-- words of no form: nothing is written
+abbrev pub bad_words : Outcome
+bad_words = record { status = status.BadWords; text = [] }
+
+-- what is refused with this text
+abbrev pub refused_with : List ℕ → Outcome
+refused_with text = record { status = status.Refused; text = text }
+
+-- what a form writes of a job
+abbrev pub form_text : Form → Job → List ℕ
+form_text form.Run j = run_text j
+
+-- a plan that has a cause is refused; else the text is written
+abbrev pub planned : Option PlanCause → List ℕ → Outcome
+planned (Some c) text = refused_with (refused_plan_text c)
+planned None text = record { status = status.Done; text = text }
+
+-- what a form answers to a job
+abbrev pub outcome_of_job : Form → Job → Outcome
+outcome_of_job f j = planned (plan_cause_of j.parts) (form_text f j)
 
 -- a line that has a cause is refused
-abbrev pub outcome_of_read : Result Job (ℕ × Cause) → Outcome
-outcome_of_read (Ok j) = outcome_of_job j
-outcome_of_read (Err e) = record { status = status.Refused; text = refused_line_text e.0 e.1 }
+abbrev pub outcome_of_read : Form → Result Job (ℕ × Cause) → Outcome
+outcome_of_read f (Ok j) = outcome_of_job f j
+outcome_of_read f (Err e) = refused_with (refused_line_text e.0 e.1)
 
--- the answer to the words `run` and these bytes
-abbrev pub outcome_of : List ℕ → Outcome
-outcome_of bytes = if nat_lt input_limit (length bytes) then record { status = status.Refused; text = too_long_text } else outcome_of_read (job_of bytes)
+-- what a form answers to the bytes of a job
+abbrev pub outcome_of_bytes : Form → List ℕ → Outcome
+outcome_of_bytes f bytes = if nat_lt input_limit (length bytes) then refused_with too_long_text else outcome_of_read f (job_of bytes)
+
+-- what the program answers to these words and the bytes that they ask for, without a fault and with memory
+abbrev pub outcome_of : List (List ℕ) → List ℕ → Outcome
+outcome_of words bytes = unwrap_or (option_map (λ f. outcome_of_bytes f bytes) (form_of words)) bad_words

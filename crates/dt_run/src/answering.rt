@@ -1,18 +1,19 @@
 //! The answer to an input.
 
-ghost use Rattle.std.specs.Prelude.{◌≡◌, ◌++◌, ◌<◌, ◌-◌, ◌^◌, IfOk, OnOk, length};
+ghost use Rattle.std.specs.Prelude.{◌≡◌, ◌++◌, ◌<◌, ◌-◌, ◌^◌, IfOk, OnOk, length, map};
 ghost use Rattle.std.specs.List.{flat_map};
 ghost use Rattle.dt_job.specs.Jobs.{IsJob};
 ghost use Rattle.dt_job.specs.Read.{job_of};
 ghost use Rattle.dt_run.specs.Clauses.{outcome_in};
-ghost use Rattle.dt_run.specs.Outcome.{given_of, outcome_of_job, outcome_of_read, print_text, run_text, show_text};
+ghost use Rattle.dt_run.specs.Outcome.{form_text, outcome_of_job, outcome_of_read, print_text, run_text, show_text};
+ghost use Rattle.dt_run.specs.TensorText.{dense_of, tensor_text};
 
-use crate::limits::has_too_many_visits;
-use crate::refusal::{refused_line, refused_visits};
+use crate::form::Form;
+use crate::limits::plan_cause;
+use crate::refusal::{refused_line, refused_plan};
 use crate::running::run_parts;
-use crate::short_text::ShortText;
 use crate::tensor_text::put_tensor;
-use dt_base::{Bytes, Name, NoMemory};
+use dt_base::{Bytes, Name, NoMemory, ShortText};
 use dt_job::{Job, JobEnd, Show, read_job};
 use dt_model::Whole;
 use std::alloc::Global;
@@ -25,55 +26,61 @@ pub enum Answer {
 }
 
 /// The answer to an input that is not too long.
-pub fn answer_to(alloc: Global, input: &[u8]) -> Result<Answer, NoMemory>
+pub fn answer_to(alloc: Global, form: Form, input: &[u8]) -> Result<Answer, NoMemory>
     requires { length input.now < 2 ^ 32 - 1 }
-    ensures { IfOk result (λ a. outcome_in a ≡ outcome_of_read (job_of input.now)) }
+    ensures { IfOk result (λ a. outcome_in a ≡ outcome_of_read form (job_of input.now)) }
 {
     match read_job(alloc, input) {
-        Ok(job) => answer_to_job(alloc, &job),
+        Ok(job) => answer_to_job(alloc, form, job),
         Err(JobEnd::Refused(line, cause)) => Ok(Answer::Refusal(refused_line(line, &cause))),
         Err(JobEnd::NoMemory) => Err(NoMemory),
     }
 }
 
-/// The answer to a job: its outputs, unless it has too many visits.
-fn answer_to_job(alloc: Global, job: &Job) -> Result<Answer, NoMemory>
-    requires { IsJob job.now }
-    ensures { IfOk result (λ a. outcome_in a ≡ outcome_of_job job.now) }
+/// The answer to a job: the form's text, unless the job's plan is refused.
+fn answer_to_job(alloc: Global, form: Form, job: Job) -> Result<Answer, NoMemory>
+    requires { IsJob job }
+    ensures { IfOk result (λ a. outcome_in a ≡ outcome_of_job form job) }
 {
-    if has_too_many_visits(job.parts.as_slice()) {
-        return Ok(Answer::Refusal(refused_visits()));
+    match plan_cause(job.parts.as_slice()) {
+        Some(cause) => Ok(Answer::Refusal(refused_plan(&cause))),
+        None => Ok(Answer::Text(text_of(alloc, form, job)?)),
     }
-    Ok(Answer::Text(run(alloc, job)?))
 }
 
-/// What a run of the job writes.
-fn run(alloc: Global, job: &Job) -> Result<Bytes, NoMemory>
-    requires { IsJob job.now }
-    ensures { IfOk result (λ t. t ≡ run_text job.now) }
+/// What the form writes of a job.
+fn text_of(alloc: Global, form: Form, job: Job) -> Result<Bytes, NoMemory>
+    requires { IsJob job }
+    ensures { IfOk result (λ t. t ≡ form_text form job) }
 {
-    let mut wholes = given_tensors(alloc, job)?;
-    run_parts(alloc, job.parts.as_slice(), &job.tensors, &mut wholes)?;
+    match form {
+        Form::Run => run(alloc, job),
+    }
+}
+
+/// What a run of the job writes. The tensors' numbers are moved, so that they stand in memory once.
+fn run(alloc: Global, job: Job) -> Result<Bytes, NoMemory>
+    requires { IsJob job }
+    ensures { IfOk result (λ t. t ≡ run_text job) }
+{
+    let Job {
+        names,
+        tensors,
+        parts,
+        shows,
+        ..
+    } = job;
+    let (levels, mut wholes) = tensors.into_wholes(alloc)?;
+    run_parts(alloc, parts.as_slice(), &levels, &mut wholes)?;
     let mut out = Bytes::new(alloc);
     out.append(b"distal run\n")?;
     put_shows(
         &mut out,
-        job.names.as_slice(),
+        names.as_slice(),
         wholes.as_slice(),
-        job.shows.as_slice(),
+        shows.as_slice(),
     )?;
     Ok(out)
-}
-
-/// The tensors as they are given.
-fn given_tensors(alloc: Global, job: &Job) -> Result<Vec<Whole>, NoMemory>
-    ensures { IfOk result (λ v. v.items ≡ given_of job.now) }
-{
-    let mut wholes = Vec::new(alloc);
-    for tensor in job.tensors.as_slice() {
-        wholes.push(tensor.to_whole(alloc)?)?;
-    }
-    Ok(wholes)
 }
 
 fn put_shows(
@@ -82,28 +89,35 @@ fn put_shows(
     tensors: &[Whole],
     shows: &[Show],
 ) -> Result<(), NoMemory>
-    ensures { OnOk result (out.new ≡ out.old ++ flat_map (show_text names.now tensors.now) shows.now) }
+    ensures { OnOk result (out.new ≡ out.old ++ flat_map (show_text names.now (map dense_of tensors.now)) shows.now) }
 {
     for show in shows {
-        put_show(out, names, tensors, *show)?;
+        put_show(out, names, tensors, show)?;
     }
     Ok(())
 }
 
-fn put_show(out: &mut Bytes, names: &[Name], tensors: &[Whole], show: Show) -> Result<(), NoMemory>
-    ensures { OnOk result (out.new ≡ out.old ++ show_text names.now tensors.now show) }
+fn put_show(out: &mut Bytes, names: &[Name], tensors: &[Whole], show: &Show) -> Result<(), NoMemory>
+    ensures { OnOk result (out.new ≡ out.old ++ show_text names.now (map dense_of tensors.now) show.now) }
 {
     match show {
-        Show::Print(tensor) => put_print(out, names, tensors, tensor as usize),
+        Show::Print(tensor) => put_print(out, names, tensors, *tensor as usize),
     }
 }
 
 /// Prints the tensor with a number, where there is one.
 fn put_print(out: &mut Bytes, names: &[Name], tensors: &[Whole], at: usize) -> Result<(), NoMemory>
-    ensures { OnOk result (out.new ≡ out.old ++ print_text names.now tensors.now at) }
+    ensures { OnOk result (out.new ≡ out.old ++ print_text names.now (map dense_of tensors.now) at) }
 {
     match (names.get(at), tensors.get(at)) {
-        (Some(name), Some(tensor)) => put_tensor(out, name, tensor),
+        (Some(name), Some(tensor)) => put_whole(out, name, tensor),
         (None, Some(_)) | (Some(_), None) | (None, None) => Ok(()),
     }
+}
+
+/// Prints a tensor with dense levels.
+fn put_whole(out: &mut Bytes, name: &Name, tensor: &Whole) -> Result<(), NoMemory>
+    ensures { OnOk result (out.new ≡ out.old ++ tensor_text name.now (dense_of tensor.now)) }
+{
+    put_tensor(out, name, &tensor.shape(), tensor.values())
 }

@@ -9,22 +9,11 @@ ghost use Rattle.dt_nest.specs.Tree.{read_accesses};
 ghost use Rattle.dt_nest.specs.Run.{HasLaneValue, IsAtLeaf, OnLanes, is_among};
 ghost use Rattle.dt_nest.specs.Meaning.{factor_of, term_of, terms_of};
 ghost use Rattle.dt_nest.specs.World.{entries_of, world_of};
-ghost use Rattle.dt_run.specs.AtVisit.{AreCoordinates, IsAccessOver, IsFactorAt, IsTermAt, MayRead, env_at, valid_of, visit_of};
+ghost use Rattle.dt_nest.specs.Point.{env_at, valid_of, visit_of};
+ghost use Rattle.dt_run.specs.AtVisit.{AreCoordinates, IsAccessOver, IsFactorAt, IsTermAt};
 
 use dt_model::{Access, Factor, Locator, Term, Whole};
 use dt_nest::Visits;
-
-/// The value of a variable at the last visit, with a value of its substituted loop where one is given.
-fn value_of<L: Locator>(visits: &Visits<L>, lane: Option<u32>, var: u32) -> u64
-    requires { MayRead visits.now lane var }
-    ensures value { result ≡ env_at visits.now lane var }
-    ensures below { result < slice_index visits.now.sched.extents var }
-{
-    match lane {
-        None => visits.eval(var),
-        Some(x) => visits.eval_lane(x, var),
-    }
-}
 
 /// The values of the variables, and 0 behind them.
 pub fn coordinates<L: Locator>(visits: &Visits<L>, lane: Option<u32>, vars: &[u32]) -> [u32; 4]
@@ -34,7 +23,7 @@ pub fn coordinates<L: Locator>(visits: &Visits<L>, lane: Option<u32>, vars: &[u3
 {
     let mut coords = [0u32; 4];
     for (i, var) in vars.iter().enumerate() {
-        coords[i] = value_of(visits, lane, *var) as u32;
+        coords[i] = visits.value_at(lane, *var) as u32;
     }
     coords
 }

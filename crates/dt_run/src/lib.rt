@@ -3,10 +3,11 @@
 
 mod answering;
 mod at_visit;
+mod form;
 mod limits;
+mod plan_cause;
 mod refusal;
 mod running;
-mod short_text;
 mod status;
 mod tensor_text;
 mod top;

@@ -2,16 +2,29 @@
 
 ghost use Rattle.std.specs.Prelude.{◌≡◌, ◌+◌, min};
 ghost use Rattle.dt_nest.specs.Tree.{tree_of};
-ghost use Rattle.dt_run.specs.Limits.{has_too_many_visits, visit_limit, visits_bound};
+ghost use Rattle.dt_plan.specs.Limits.{visit_limit, visits_bound};
+ghost use Rattle.dt_run.specs.Limits.{has_too_many_visits, plan_cause_of};
 
+use crate::plan_cause::PlanCause;
 use dt_job::Part;
 use dt_nest::Nest;
 
 /// The most visits of a job.
 const VISIT_LIMIT: u64 = 4_194_304;
 
+/// The first limit of a plan that the parts pass.
+pub fn plan_cause(parts: &[Part]) -> Option<PlanCause>
+    ensures { result ≡ plan_cause_of parts.now }
+{
+    if has_too_many_visits(parts) {
+        Some(PlanCause::TooManyVisits)
+    } else {
+        None
+    }
+}
+
 /// Whether the parts may have more than 4,194,304 visits in all.
-pub fn has_too_many_visits(parts: &[Part]) -> bool
+fn has_too_many_visits(parts: &[Part]) -> bool
     ensures { result ≡ has_too_many_visits parts.now }
 {
     let mut count = 0u64;

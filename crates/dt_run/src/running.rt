@@ -1,11 +1,11 @@
 //! Parts take effect, one after another.
 
-ghost use Rattle.std.specs.Prelude.{◌≡◌, ℕ, All, List, OnOk};
+ghost use Rattle.std.specs.Prelude.{◌≡◌, ℕ, List, OnOk};
 ghost use Rattle.dt_model.specs.Stmts.{shapes_of};
 ghost use Rattle.dt_model.specs.Value.{final_of};
 ghost use Rattle.dt_model.specs.declared.stmt.Stmt.{Stmt};
 ghost use Rattle.dt_job.specs.PartsOf.{ArePartsOf};
-ghost use Rattle.dt_run.specs.Running.{AreOver, WritesDense};
+ghost use Rattle.dt_run.specs.Running.{AreOver};
 
 use crate::visiting::run_part;
 use dt_base::NoMemory;
@@ -22,9 +22,9 @@ pub fn run_parts<L: Locator>(
     tensors: &mut Vec<Whole>,
 ) -> Result<(), NoMemory>
     requires over { AreOver (L.tensors loc.now) tensors.old.items }
-    requires parts { (names : List (List ℕ)) × (stmts : List Stmt) × ArePartsOf (L.tensors loc.now) names stmts parts.now }
-    requires dense { All (WritesDense (L.tensors loc.now)) parts.now }
-    ensures ok { OnOk result ((names : List (List ℕ)) (stmts : List Stmt) → ArePartsOf (L.tensors loc.now) names stmts parts.now → tensors.new.items ≡ final_of stmts tensors.old.items) }
+    requires parts { (dims : List ℕ) × (names : List (List ℕ)) × (stmts : List Stmt) × ArePartsOf dims (L.tensors loc.now) names stmts parts.now }
+    ensures ok { OnOk result ((dims : List ℕ) (names : List (List ℕ)) (stmts : List Stmt) → ArePartsOf dims (L.tensors loc.now) names stmts parts.now → tensors.new.items ≡ final_of stmts tensors.old.items) }
+    ensures over { OnOk result (AreOver (L.tensors loc.now) tensors.new.items) }
     ensures shapes { shapes_of tensors.new.items ≡ shapes_of tensors.old.items }
 {
     for part in parts {

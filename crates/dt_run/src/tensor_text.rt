@@ -1,27 +1,33 @@
-//! What is printed of a whole tensor.
+//! What is printed of a tensor.
 
-ghost use Rattle.std.specs.Prelude.{◌≡◌, ◌+◌, ◌*◌, ◌/◌, ◌<◌, ◌∷◌, ◌++◌, codes, length, map, OnOk, OnErr};
-ghost use Rattle.std.specs.List.{flat_map, join_with_byte};
-ghost use Rattle.dt_run.specs.CauseText.{line_end};
-ghost use Rattle.dt_run.specs.TensorText.{IsFrontOf, row_length as length_of_rows, row_text, rows_text, shape_text, tensor_text};
+ghost use Rattle.std.specs.Prelude.{◌≡◌, ◌+◌, ◌*◌, ◌/◌, ◌<◌, ◌++◌, codes, length, OnOk};
+ghost use Rattle.dt_base.specs.Rows.{product};
+ghost use Rattle.dt_model.specs.Shape.{dims, IsShape};
+ghost use Rattle.dt_tensor.specs.Packed.{dense_tensor};
+ghost use Rattle.dt_run.specs.Refusals.{line_end};
+ghost use Rattle.dt_run.specs.TensorText.{cut_text, row_length as length_of_rows, row_text, shape_text, tensor_text};
 
 use dt_base::{Bytes, Name, NoMemory};
-use dt_model::Whole;
-use itoa::{Buffer, Integer};
+use dt_model::Shape;
 
-/// Puts what is printed of the tensor at the end: a line with its name and its shape, and a line for each row.
-pub fn put_tensor(out: &mut Bytes, name: &Name, tensor: &Whole) -> Result<(), NoMemory>
-    ensures ok { OnOk result (out.new ≡ out.old ++ tensor_text name.now tensor.now) }
-    ensures err { OnErr result (IsFrontOf out.old out.new) }
+/// Puts what is printed of a tensor with dense levels at the end: a line with its name and its shape, and a line for each
+/// row. The numbers stand in order of position.
+pub fn put_tensor(
+    out: &mut Bytes,
+    name: &Name,
+    shape: &Shape,
+    values: &[u64],
+) -> Result<(), NoMemory>
+    requires shape { IsShape shape.now }
+    requires full { length values.now ≡ product (dims shape.now) }
+    ensures { OnOk result (out.new ≡ out.old ++ tensor_text name.now (dense_tensor (dims shape.now) values.now)) }
 {
-    let shape = tensor.shape();
     put_head(out, name, shape.dims())?;
-    put_rows(out, tensor.values(), row_length(shape.dims()))
+    put_rows(out, values, row_length(shape.dims()))
 }
 
 fn put_head(out: &mut Bytes, name: &Name, extents: &[u32]) -> Result<(), NoMemory>
-    ensures ok { OnOk result (out.new ≡ out.old ++ (codes "tensor " ++ name.now ++ codes " " ++ shape_text extents.now ++ line_end)) }
-    ensures err { OnErr result (IsFrontOf out.old out.new) }
+    ensures { OnOk result (out.new ≡ out.old ++ (codes "tensor " ++ name.now ++ codes " " ++ shape_text extents.now ++ line_end)) }
 {
     out.append(b"tensor ")?;
     out.append(name.as_slice())?;
@@ -31,13 +37,12 @@ fn put_head(out: &mut Bytes, name: &Name, extents: &[u32]) -> Result<(), NoMemor
 }
 
 fn put_shape(out: &mut Bytes, extents: &[u32]) -> Result<(), NoMemory>
-    ensures ok { OnOk result (out.new ≡ out.old ++ shape_text extents.now) }
-    ensures err { OnErr result (IsFrontOf out.old out.new) }
+    ensures { OnOk result (out.new ≡ out.old ++ shape_text extents.now) }
 {
     if extents.is_empty() {
         out.append(b"scalar")
     } else {
-        put_joined(out, extents, b'x')
+        out.append_joined(extents, b'x')
     }
 }
 
@@ -51,8 +56,7 @@ fn row_length(extents: &[u32]) -> usize
 /// Puts a line for each `row` numbers.
 fn put_rows(out: &mut Bytes, values: &[u64], row: usize) -> Result<(), NoMemory>
     requires { 0 < row }
-    ensures ok { OnOk result (out.new ≡ out.old ++ rows_text (length values.now / row) row values.now) }
-    ensures err { OnErr result (IsFrontOf out.old out.new) }
+    ensures { OnOk result (out.new ≡ out.old ++ cut_text (length values.now / row) row values.now) }
 {
     for r in 0..values.len() / row {
         put_row(out, &values[r * row..r * row + row])?;
@@ -61,43 +65,8 @@ fn put_rows(out: &mut Bytes, values: &[u64], row: usize) -> Result<(), NoMemory>
 }
 
 fn put_row(out: &mut Bytes, values: &[u64]) -> Result<(), NoMemory>
-    ensures ok { OnOk result (out.new ≡ out.old ++ row_text values.now) }
-    ensures err { OnErr result (IsFrontOf out.old out.new) }
+    ensures { OnOk result (out.new ≡ out.old ++ row_text values.now) }
 {
-    put_joined(out, values, b' ')?;
+    out.append_joined(values, b' ')?;
     out.append(b"\n")
-}
-
-/// Puts the numbers in decimal, with the byte between each two.
-fn put_joined<I: Integer>(out: &mut Bytes, numbers: &[I], between: u8) -> Result<(), NoMemory>
-    ensures ok { OnOk result (out.new ≡ out.old ++ join_with_byte between (map I.text numbers.now)) }
-    ensures err { OnErr result (IsFrontOf out.old out.new) }
-{
-    match numbers {
-        [] => Ok(()),
-        [first, rest @ ..] => {
-            put_number(out, *first)?;
-            put_others(out, rest, between)
-        }
-    }
-}
-
-/// Puts the numbers in decimal, the byte before each.
-fn put_others<I: Integer>(out: &mut Bytes, numbers: &[I], between: u8) -> Result<(), NoMemory>
-    ensures ok { OnOk result (out.new ≡ out.old ++ flat_map (λ n. between ∷ I.text n) numbers.now) }
-    ensures err { OnErr result (IsFrontOf out.old out.new) }
-{
-    for n in numbers {
-        out.append(&[between])?;
-        put_number(out, *n)?;
-    }
-    Ok(())
-}
-
-fn put_number<I: Integer>(out: &mut Bytes, n: I) -> Result<(), NoMemory>
-    ensures ok { OnOk result (out.new ≡ out.old ++ I.text n) }
-    ensures err { OnErr result (out.new ≡ out.old) }
-{
-    let mut buffer = Buffer::new();
-    out.append(buffer.format(n).as_bytes())
 }

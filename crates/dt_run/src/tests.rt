@@ -3,7 +3,7 @@
 use crate::refusal::refused_line;
 use crate::tensor_text::put_tensor;
 use dt_base::{Bytes, Name};
-use dt_model::{Cause, Shape, Whole};
+use dt_model::{Cause, Shape};
 use std::alloc::Global;
 use std::test::Fail;
 
@@ -27,22 +27,13 @@ fn refuses_with_the_cause_and_its_arguments(rt: HostRuntime) {
     );
 }
 
-fn whole(alloc: Global, extents: &[u32], values: &[u64]) -> Result<Whole, Fail> {
+fn prints(alloc: Global, extents: &[u32], values: &[u64], text: &[u8]) -> Result<bool, Fail> {
     let shape = Shape::from_extents(extents).ok_or("no shape")?;
-    let values = Vec::from_slice(alloc, values)?;
     if values.len() != shape.count() as usize {
         return Err("another count")?;
     }
-    Ok(Whole::from_values(shape, values))
-}
-
-fn prints(alloc: Global, extents: &[u32], values: &[u64], text: &[u8]) -> Result<bool, Fail> {
     let mut out = Bytes::new(alloc);
-    put_tensor(
-        &mut out,
-        &Name::from_slice(b"A"),
-        &whole(alloc, extents, values)?,
-    )?;
+    put_tensor(&mut out, &Name::from_slice(b"A"), &shape, values)?;
     Ok(out.as_slice() == text)
 }
 

@@ -1,12 +1,13 @@
 //! The top call.
 
-ghost use Rattle.std.specs.Prelude.{◌≡◌, ◌≢◌, ◌≤◌, IfSome, map, string_bytes, true, false};
-ghost use Rattle.std.specs.Io.KnownBytes.{Keeps, Appends};
+ghost use Rattle.std.specs.Prelude.{◌≡◌, ◌≢◌, ◌≤◌, map, string_bytes, None};
+ghost use Rattle.std.specs.Io.KnownBytes.{Appends};
 ghost use Rattle.dt_io.specs.Faults.{Rose, AppendsPrefix};
-ghost use Rattle.dt_run.specs.Outcome.{outcome_of};
-ghost use Rattle.dt_run.specs.Clauses.{Answers, Wrote, are_run_words};
+ghost use Rattle.dt_run.specs.Clauses.{Answers, IfTold, Wrote};
+ghost use Rattle.dt_run.specs.Forms.{form_of as form_in};
 
 use crate::answering::{Answer, answer_to};
+use crate::form::form_of;
 use crate::status::Status;
 use dt_io::{ReadEnd, Sink, Source, read_all, write_all};
 use std::alloc::Global;
@@ -14,51 +15,50 @@ use std::alloc::Global;
 /// The most bytes of an input.
 const INPUT_LIMIT: u32 = 16_777_216;
 
-/// Reads a job from the source, runs it, and writes the answer to the sink: at `Done` what the outputs print, at
-/// `Refused` the first line that has a cause.
+/// Answers the words: `run` reads a job from the source, runs it, and writes the answer to the sink, at `Done` what the
+/// outputs print, and at `Refused` the first line that has a cause.
 pub fn distal<R: Source, W: Sink>(
     alloc: Global,
     words: &[String],
     input: &mut R,
     out: &mut W,
 ) -> Status
-    // What is written for each input that is answered.
-    ensures done { result ≡ Status.Done → IfSome (R.left input.old) (λ bytes. Answers Status.Done (outcome_of bytes) (W.written out.old) (W.written out.new)) }
-    ensures refused { result ≡ Status.Refused → IfSome (R.left input.old) (λ bytes. Answers Status.Refused (outcome_of bytes) (W.written out.old) (W.written out.new)) }
+    // What is written where the words are answered.
+    ensures done { result ≡ Status.Done → IfTold (map string_bytes words.now) (R.left input.old) (λ o. Answers Status.Done o (W.written out.old) (W.written out.new)) }
+    ensures refused { result ≡ Status.Refused → IfTold (map string_bytes words.now) (R.left input.old) (λ o. Answers Status.Refused o (W.written out.old) (W.written out.new)) }
 
-    // When each other status comes, and what stands then. On NoMemory and ReadFault nothing is written.
-    ensures faults { (result ≡ Status.BadWords → (are_run_words (map string_bytes words.now) ≡ false) × (input.new ≡ input.old) × (out.new ≡ out.old))
-        × (result ≡ Status.ReadFault → Rose (R.faults input.old) (R.faults input.new) × Keeps (W.written out.old) (W.written out.new))
-        × (result ≡ Status.WriteFault → Rose (W.faults out.old) (W.faults out.new) × IfSome (R.left input.old) (λ bytes. AppendsPrefix (W.written out.old) (W.written out.new) (outcome_of bytes).text))
-        × (result ≡ Status.NoMemory → (are_run_words (map string_bytes words.now) ≡ true) × Keeps (W.written out.old) (W.written out.new)) }
+    // When each other status comes.
+    ensures faults_words { result ≡ Status.BadWords → form_in (map string_bytes words.now) ≡ None }
+    ensures faults_read { result ≡ Status.ReadFault → Rose (R.faults input.old) (R.faults input.new) }
+    ensures faults_write { result ≡ Status.WriteFault → Rose (W.faults out.old) (W.faults out.new) }
+    ensures faults_memory { result ≡ Status.NoMemory → form_in (map string_bytes words.now) ≢ None }
 
-    // Without a fault and with memory the status is the outcome's.
-    ensures complete { (are_run_words (map string_bytes words.now) ≡ false → result ≡ Status.BadWords)
-        × (are_run_words (map string_bytes words.now) ≡ true → ¬ Rose (R.faults input.old) (R.faults input.new) → ¬ Rose (W.faults out.old) (W.faults out.new)
-        → result ≢ Status.NoMemory → IfSome (R.left input.old) (λ bytes. (outcome_of bytes).status ≡ result)) }
+    // Then nothing is read or written, nothing is written, or a front of the text is.
+    ensures unread { result ≡ Status.BadWords → input.new ≡ input.old }
+    ensures unwritten_words { result ≡ Status.BadWords → out.new ≡ out.old }
+    ensures unwritten_read { result ≡ Status.ReadFault → out.new ≡ out.old }
+    ensures unwritten_memory { result ≡ Status.NoMemory → out.new ≡ out.old }
+    ensures front { result ≡ Status.WriteFault → IfTold (map string_bytes words.now) (R.left input.old) (λ o. AppendsPrefix (W.written out.old) (W.written out.new) o.text) }
+
+    // Without a fault and with memory the status is the outcome's; at words of no form it is so whatever happens.
+    ensures complete_words { form_in (map string_bytes words.now) ≡ None → result ≡ Status.BadWords }
+    ensures complete { ¬ Rose (R.faults input.old) (R.faults input.new) → ¬ Rose (W.faults out.old) (W.faults out.new) → result ≢ Status.NoMemory
+        → IfTold (map string_bytes words.now) (R.left input.old) (λ o. o.status ≡ result) }
 {
-    if !are_run_words(words) {
-        return Status::BadWords;
-    }
+    let form = match form_of(words) {
+        None => return Status::BadWords,
+        Some(form) => form,
+    };
     let bytes = match read_all(alloc, input, INPUT_LIMIT) {
         Ok(bytes) => bytes,
         Err(ReadEnd::Failed) => return Status::ReadFault,
         Err(ReadEnd::NoMemory) => return Status::NoMemory,
         Err(ReadEnd::TooLong) => return write(out, Status::Refused, b"refused input: TooLong\n"),
     };
-    match answer_to(alloc, bytes.as_slice()) {
+    match answer_to(alloc, form, bytes.as_slice()) {
         Ok(Answer::Text(text)) => write(out, Status::Done, text.as_slice()),
         Ok(Answer::Refusal(text)) => write(out, Status::Refused, text.as_slice()),
         Err(_) => Status::NoMemory,
-    }
-}
-
-fn are_run_words(words: &[String]) -> bool
-    ensures { result ≡ are_run_words (map string_bytes words.now) }
-{
-    match words {
-        [word] => word.as_str() == "run",
-        _ => false,
     }
 }
 

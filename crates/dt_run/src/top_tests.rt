@@ -65,10 +65,12 @@ const NO_FAULT: Faults = Faults {
     room: 1000,
 };
 
-/// A run over a source of 16 bytes a call and a sink of one.
-fn run(alloc: Global, word: &str, text: Bytes, faults: &Faults) -> Result<(Status, MemSink), Fail> {
+/// A run by the words, which blanks part, over a source of 16 bytes a call and a sink of one.
+fn run(alloc: Global, line: &str, text: Bytes, faults: &Faults) -> Result<(Status, MemSink), Fail> {
     let mut words = Vec::new(alloc);
-    words.push(String::from_str(alloc, word)?)?;
+    for word in line.split_whitespace() {
+        words.push(String::from_str(alloc, word)?)?;
+    }
     let reads = Numbers::from_slice(alloc, &[faults.reads])
         .ok()
         .ok_or("memory")?;
@@ -161,7 +163,7 @@ fn refuses_the_first_line_with_a_cause(rt: HostRuntime) -> Result<(), Fail> {
 
 #[test]
 fn whole_jobs_print_their_answers(rt: HostRuntime) -> Result<(), Fail> {
-    let jobs: [(&[u8], &[u8]); 14] = [
+    let jobs: [(&[u8], &[u8]); 16] = [
         (
             b"distal 1\nmachine 1\ntensor s scalar\ntensor b scalar\ndata b 18446744073709551615\nstmt s = b * 2\nend\nprint s\n",
             b"distal run\ntensor s scalar\n18446744073709551614\n",
@@ -175,9 +177,10 @@ fn whole_jobs_print_their_answers(rt: HostRuntime) -> Result<(), Fail> {
             b"refused line 6: ExtentClash k\n",
         ),
         (b"", b"refused line 1: Unfinished\n"),
+        // The product's job, cut after its statement.
         (
-            b"distal 1\nmachine 1\ntensor s scalar\nstmt s = 1",
-            b"refused line 5: Unfinished\n",
+            b"distal 1\nmachine 1\ntensor A 2x2\ntensor B 2x2\ntensor C 2x2\ndata B 1 2 3 4\ndata C 5 6 7 8\nstmt A(i,j) = B(i,k) * C(k,j)\n",
+            b"refused line 9: Unfinished\n",
         ),
         (
             b"distal 1\nmachine 1\ntensor a 3\nfill a seed 7\nprint a\n",
@@ -199,6 +202,15 @@ fn whole_jobs_print_their_answers(rt: HostRuntime) -> Result<(), Fail> {
         (
             b"distal 1\nmachine 1\ntensor s scalar\ntensor a 2\ndata a 3 4\nstmt s = a(i) * a(j)\nsplit i io ii 65\nend\nprint s\n",
             b"distal run\ntensor s scalar\n49\n",
+        ),
+        // Blocks of two numbers are three, and not four.
+        (
+            b"distal 1\nmachine 4\ntensor a 5\ntensor b 5\nplace a x -> x\nplace b x -> x\ndata b 1 2 3 4 5\nstmt a(i) = b(i) + 10\ndivide i io ii 3\ndistribute io\nend\nprint a\n",
+            b"refused line 10: WrongExtent io 3 4\n",
+        ),
+        (
+            b"distal 1\nmachine 2\ntensor A 2x2\ntensor B 2x2\ntensor C 2x2\ndata B 1 2 3 4\ndata C 5 6 7 8\nstmt A(i,j) = B(i,k) * C(k,j)\ndistribute i\nreorder j i\nend\nprint A\n",
+            b"refused line 10: Distributed i\n",
         ),
         // Blocks of 2, 2, 1 and 0 numbers.
         (
@@ -225,11 +237,18 @@ fn whole_jobs_print_their_answers(rt: HostRuntime) -> Result<(), Fail> {
     Ok(())
 }
 
+// The source's first call is to fail: with BadWords nothing was read.
 #[test]
 fn reads_nothing_for_other_words(rt: HostRuntime) -> Result<(), Fail> {
-    for word in ["plan", "Run", "run ", "", "--help"] {
-        let (status, out) = run(rt.alloc(), word, job(rt.alloc(), 0, b"")?, &NO_FAULT)?;
-        assert_eq!(rt; status, Status::BadWords);
+    let faults = Faults {
+        reads: 1,
+        ..NO_FAULT
+    };
+    for line in [
+        "", "plan", "Run", "--help", "run run", "run plan", "plan run",
+    ] {
+        let (status, out) = run(rt.alloc(), line, job(rt.alloc(), 0, b"")?, &faults)?;
+        assert_eq!(rt; status, Status::BadWords, "at {line}");
         assert_eq!(rt; out.written().len(), 0);
     }
     Ok(())

@@ -11,7 +11,8 @@ ghost use Rattle.dt_nest.specs.Outputs.{output_of};
 ghost use Rattle.dt_nest.specs.Run.{IsAtLeaf};
 ghost use Rattle.dt_nest.specs.Visits.{IsVisit};
 ghost use Rattle.dt_nest.specs.World.{entries_of, world_of};
-ghost use Rattle.dt_run.specs.AtVisit.{AreCoordinates, env_at, visit_of};
+ghost use Rattle.dt_nest.specs.Point.{env_at, visit_of};
+ghost use Rattle.dt_run.specs.AtVisit.{AreCoordinates};
 ghost use Rattle.dt_run.specs.Visiting.{HasGoneOn, IsLeafOver, IsReady, IsRunnable, IsStmtOf, tensors_cleared, tensors_with_sum};
 
 use crate::at_visit::{coordinates, visit_number};

@@ -6,3 +6,7 @@ pub mod SweepLemmas
 pub mod SameLemmas
 pub mod BoxLemmas
 pub mod WholeBoxes
+pub mod StretchLemmas
+pub mod CombLemmas
+pub mod ToothLemmas
+pub mod BelowSets

@@ -10,7 +10,7 @@ pub contains-append : (xs ys : List ℕ) (x : ℕ) → contains (xs ++ ys) x ≡
 contains-append [] ys x = refl
 contains-append (y ∷ xs) ys x = grind (arith, contains-append xs ys x)
 
-contains-ascending : (a n x : ℕ) → contains (ascending a n) x ≡ (nat_le a x && nat_lt x (a + n))
+pub contains-ascending : (a n x : ℕ) → contains (ascending a n) x ≡ (nat_le a x && nat_lt x (a + n))
 contains-ascending a zero x = grind (arith, nat_tests)
 contains-ascending a (suc n) x = grind (arith, nat_tests, contains-ascending (suc a) n x)
 
@@ -59,16 +59,16 @@ ascends_from_strictly_increasing low (x ∷ y ∷ ys) first up =
     (first (omega arith), ascends_from_strictly_increasing (suc x) (y ∷ ys) (λ h. omega arith) (λ k h. let next : suc k + 1 ≡ suc (k + 1) = omega arith in rw next at (up (suc k) (omega arith))))
 
 -- a number below where the list begins is not in it
-pub contains-below : (low : ℕ) (xs : List ℕ) (x : ℕ) → Ascends low xs → x < low → contains xs x ≡ false
-contains-below low [] x a lt = refl
-contains-below low (y ∷ ys) x a lt = grind (arith, nat_tests, contains-below (suc y) ys x a.1 (omega arith))
+pub contains-before : (low : ℕ) (xs : List ℕ) (x : ℕ) → Ascends low xs → x < low → contains xs x ≡ false
+contains-before low [] x a lt = refl
+contains-before low (y ∷ ys) x a lt = grind (arith, nat_tests, contains-before (suc y) ys x a.1 (omega arith))
 
 contains-first : (x : ℕ) (xs : List ℕ) → contains (x ∷ xs) x ≡ true
 contains-first x xs = grind (arith, nat_tests)
 
 -- a first number is no smaller than another list's, where that list has all its numbers
 first_le : (low x y : ℕ) (xs ys : List ℕ) → Ascends low (y ∷ ys) → contains (x ∷ xs) x ≡ contains (y ∷ ys) x → y ≤ x
-first_le low x y xs ys a same = grind (arith, nat_tests, contains-below y (y ∷ ys) x (omega arith, a.1), contains-first x xs)
+first_le low x y xs ys a same = grind (arith, nat_tests, contains-before y (y ∷ ys) x (omega arith, a.1), contains-first x xs)
 
 contains-rest : (x y : ℕ) (xs : List ℕ) → x < y → contains (x ∷ xs) y ≡ contains xs y
 contains-rest x y xs lt = grind (arith, nat_tests)
@@ -77,7 +77,7 @@ contains-rest x y xs lt = grind (arith, nat_tests)
 contains-rests : (x y : ℕ) (xs ys : List ℕ) → Ascends (suc x) xs → Ascends (suc y) ys → x ≡ y → ((z : ℕ) → contains (x ∷ xs) z ≡ contains (y ∷ ys) z)
     → (z : ℕ) → contains xs z ≡ contains ys z
 contains-rests x y xs ys a b e same z = elim (leb_tells z x) [
-  | inl h ↦ contains-below (suc x) xs z a (omega arith) ∙ sym (contains-below (suc y) ys z b (omega arith))
+  | inl h ↦ contains-before (suc x) xs z a (omega arith) ∙ sym (contains-before (suc y) ys z b (omega arith))
   | inr h ↦ sym (contains-rest x z xs (omega arith)) ∙ same z ∙ contains-rest y z ys (omega arith)
 ]
 

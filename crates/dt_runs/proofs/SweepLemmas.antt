@@ -1,4 +1,4 @@
--- A sweep over two lists of intervals: what holds between two stretches.
+-- A sweep over two lists of intervals: what holds between two changes.
 use Rattle.std.proofs.Common.{◌≡◌, ℕ, zero, suc, ◌+◌, ◌-◌, ◌<◌, ◌≤◌, ◌^◌, List, [], ◌∷◌, ◌++◌, length, refl, ap, ◌∙◌, sym, arith, subst, Bool, true, false, not, ◌&&◌, ◌||◌, nat_le, nat_lt, max, get_or, inl, inr, ◌⊎◌}
 use Rattle.std.specs.List.{filter, All, list_any}
 use Rattle.std.specs.List.Sorted.{IsStrictlyIncreasing}
@@ -8,7 +8,7 @@ use Rattle.std.proofs.lemmas.List.{append-nil}
 use Rattle.dt_runs.specs.declared.interval.Interval.{Interval}
 use Rattle.dt_runs.specs.declared.combine.Combination.{Combination}
 use Rattle.dt_runs.specs.declared.combine.Combination.TheVariants.{Both, OnlyLeft, Either}
-use Rattle.dt_runs.specs.Combination.{keeps_of, is_begun, stretch_end, past_of}
+use Rattle.dt_runs.specs.Combination.{keeps_of, is_begun, change_after, past_of}
 use Rattle.dt_runs.specs.Intervals.{ascending, range, numbers_of, IsApart}
 use Rattle.dt_runs.specs.Sets.{contains}
 use Rattle.dt_runs.proofs.RangeLemmas.{range-append, All-range}
@@ -42,25 +42,25 @@ pub IsAhead-start : (is : List Interval) → IsApart 0 is → IsAhead 0 is
 IsAhead-start [] a = tt
 IsAhead-start (i ∷ is) a = (omega arith, a.1, a.2)
 
-pub at_lt-stretch_end : (at : ℕ) (i : Interval) (is : List Interval) → IsAhead at (i ∷ is) → at < stretch_end (i ∷ is) at
-at_lt-stretch_end at i is a = grind (arith, nat_tests)
+pub at_lt-change_after : (at : ℕ) (i : Interval) (is : List Interval) → IsAhead at (i ∷ is) → at < change_after (i ∷ is) at
+at_lt-change_after at i is a = grind (arith, nat_tests)
 
--- up to the end of a stretch, the first interval has a number exactly where it has begun
-pub covers-stretch : (is : List Interval) (at x : ℕ) → IsAhead at is → at ≤ x → x < stretch_end is at → covers is x ≡ is_begun is at
-covers-stretch [] at x a le lt = refl
-covers-stretch (i ∷ is) at x a le lt = grind (arith, nat_tests, covers-below (suc i.end) is x a.2)
+-- up to the next change, the first interval has a number exactly where it has begun
+pub covers-unchanged : (is : List Interval) (at x : ℕ) → IsAhead at is → at ≤ x → x < change_after is at → covers is x ≡ is_begun is at
+covers-unchanged [] at x a le lt = refl
+covers-unchanged (i ∷ is) at x a le lt = grind (arith, nat_tests, covers-below (suc i.end) is x a.2)
 
 IsAhead-apart : (at end : ℕ) (is : List Interval) → end ≤ at → IsApart (suc at) is → IsAhead end is
 IsAhead-apart at end [] le a = tt
 IsAhead-apart at end (i ∷ is) le a = (omega arith, a.1, a.2)
 
-stretch_end-le : (at : ℕ) (i : Interval) (is : List Interval) → IsAhead at (i ∷ is) → stretch_end (i ∷ is) at ≤ i.end
-stretch_end-le at i is a = grind (arith, nat_tests)
+change_after-le : (at : ℕ) (i : Interval) (is : List Interval) → IsAhead at (i ∷ is) → change_after (i ∷ is) at ≤ i.end
+change_after-le at i is a = grind (arith, nat_tests)
 
-pub IsAhead-past : (is : List Interval) (at end : ℕ) → IsAhead at is → end ≤ stretch_end is at → IsAhead end (past_of is end)
+pub IsAhead-past : (is : List Interval) (at end : ℕ) → IsAhead at is → end ≤ change_after is at → IsAhead end (past_of is end)
 IsAhead-past [] at end a le = tt
 IsAhead-past (i ∷ is) at end a le = elim (leb_tells i.end end) [
-  | inl h ↦ rw h.0 (IsAhead-apart i.end end is (omega (arith, stretch_end-le at i is a)) a.2)
+  | inl h ↦ rw h.0 (IsAhead-apart i.end end is (omega (arith, change_after-le at i is a)) a.2)
   | inr h ↦ rw h.0 (h.1, a.1, a.2)
 ]
 
@@ -99,18 +99,18 @@ IsSwept-start how left right a b = record {
   so_far = refl;
 }
 
--- in a stretch each number is kept, or none is
-is_kept-stretch : (how : Combination) (left right lr rr : List Interval) (at end : ℕ) (kept : List ℕ) → IsSwept how left right lr rr at kept
-    → end ≤ stretch_end lr at → end ≤ stretch_end rr at → (x : ℕ) → at ≤ x → x < end
+-- between two changes each number is kept, or none is
+is_kept-unchanged : (how : Combination) (left right lr rr : List Interval) (at end : ℕ) (kept : List ℕ) → IsSwept how left right lr rr at kept
+    → end ≤ change_after lr at → end ≤ change_after rr at → (x : ℕ) → at ≤ x → x < end
     → is_kept how left right x ≡ keeps_of how (is_begun lr at) (is_begun rr at)
-is_kept-stretch how left right lr rr at end kept s l r x low high =
-    let in_left = s.left_same x low ∙ covers-stretch lr at x s.left_ahead low (omega arith) in
-    let in_right = s.right_same x low ∙ covers-stretch rr at x s.right_ahead low (omega arith) in
+is_kept-unchanged how left right lr rr at end kept s l r x low high =
+    let in_left = s.left_same x low ∙ covers-unchanged lr at x s.left_ahead low (omega arith) in
+    let in_right = s.right_same x low ∙ covers-unchanged rr at x s.right_ahead low (omega arith) in
     ap (λ b. keeps_of how b (covers right x)) in_left ∙ ap (λ b. keeps_of how (is_begun lr at) b) in_right
 
--- the state after a stretch
+-- the state after the next change
 IsSwept-past : (how : Combination) (left right lr rr : List Interval) (at end : ℕ) (kept more : List ℕ) → IsSwept how left right lr rr at kept
-    → at ≤ end → end ≤ stretch_end lr at → end ≤ stretch_end rr at
+    → at ≤ end → end ≤ change_after lr at → end ≤ change_after rr at
     → more ≡ filter (is_kept how left right) (range 0 end)
     → IsSwept how left right (past_of lr end) (past_of rr end) end more
 IsSwept-past how left right lr rr at end kept more s le l r so_far = record {
@@ -122,25 +122,25 @@ IsSwept-past how left right lr rr at end kept more s le l r so_far = record {
 }
 
 pub IsSwept-kept : (how : Combination) (left right lr rr : List Interval) (at end : ℕ) (kept : List ℕ) → IsSwept how left right lr rr at kept
-    → at ≤ end → end ≤ stretch_end lr at → end ≤ stretch_end rr at → keeps_of how (is_begun lr at) (is_begun rr at) ≡ true
+    → at ≤ end → end ≤ change_after lr at → end ≤ change_after rr at → keeps_of how (is_begun lr at) (is_begun rr at) ≡ true
     → IsSwept how left right (past_of lr end) (past_of rr end) end (kept ++ range at end)
 IsSwept-kept how left right lr rr at end kept s le l r keeps =
     let p = is_kept how left right in
-    let stretch : filter p (range at end) ≡ range at end =
-    filter-all p at (end - at) (λ x low high. is_kept-stretch how left right lr rr at end kept s l r x low (omega arith) ∙ keeps) in
+    let between : filter p (range at end) ≡ range at end =
+    filter-all p at (end - at) (λ x low high. is_kept-unchanged how left right lr rr at end kept s l r x low (omega arith) ∙ keeps) in
     IsSwept-past how left right lr rr at end kept (kept ++ range at end) s le l r
-    (ap (λ xs. xs ++ range at end) s.so_far ∙ ap (λ xs. filter p (range 0 at) ++ xs) (sym stretch)
+    (ap (λ xs. xs ++ range at end) s.so_far ∙ ap (λ xs. filter p (range 0 at) ++ xs) (sym between)
     ∙ sym (filter-append p (range 0 at) (range at end)) ∙ ap (λ xs. filter p xs) (range-append 0 at end (omega arith) le))
 
 pub IsSwept-skipped : (how : Combination) (left right lr rr : List Interval) (at end : ℕ) (kept : List ℕ) → IsSwept how left right lr rr at kept
-    → at ≤ end → end ≤ stretch_end lr at → end ≤ stretch_end rr at → keeps_of how (is_begun lr at) (is_begun rr at) ≡ false
+    → at ≤ end → end ≤ change_after lr at → end ≤ change_after rr at → keeps_of how (is_begun lr at) (is_begun rr at) ≡ false
     → IsSwept how left right (past_of lr end) (past_of rr end) end kept
 IsSwept-skipped how left right lr rr at end kept s le l r skips =
     let p = is_kept how left right in
-    let stretch : filter p (range at end) ≡ [] =
-    filter-none p at (end - at) (λ x low high. is_kept-stretch how left right lr rr at end kept s l r x low (omega arith) ∙ skips) in
+    let between : filter p (range at end) ≡ [] =
+    filter-none p at (end - at) (λ x low high. is_kept-unchanged how left right lr rr at end kept s l r x low (omega arith) ∙ skips) in
     IsSwept-past how left right lr rr at end kept kept s le l r
-    (s.so_far ∙ sym (append-nil (filter p (range 0 at))) ∙ ap (λ xs. filter p (range 0 at) ++ xs) (sym stretch)
+    (s.so_far ∙ sym (append-nil (filter p (range 0 at))) ∙ ap (λ xs. filter p (range 0 at) ++ xs) (sym between)
     ∙ sym (filter-append p (range 0 at) (range at end)) ∙ ap (λ xs. filter p xs) (range-append 0 at end (omega arith) le))
 
 -- what was kept is below where the sweep stands
@@ -148,13 +148,13 @@ pub All-swept : (how : Combination) (left right lr rr : List Interval) (at : ℕ
 All-swept how left right lr rr at kept s =
     subst (λ xs. All (λ x. x < at) xs) (sym s.so_far) (All-filter (is_kept how left right) (λ x. x < at) (range 0 at) (All-range 0 at at (omega arith)))
 
--- a stretch is not empty
-pub at_lt-end : (lr rr : List Interval) (at : ℕ) → IsAhead at lr → IsAhead at rr → stretch_end lr at < 2 ^ 32 → stretch_end rr at < 2 ^ 32
-    → (length lr ≡ 0 → length rr ≡ 0 → ⊥) → (at < stretch_end lr at) × (at < stretch_end rr at)
+-- the next change comes later
+pub at_lt-end : (lr rr : List Interval) (at : ℕ) → IsAhead at lr → IsAhead at rr → change_after lr at < 2 ^ 32 → change_after rr at < 2 ^ 32
+    → (length lr ≡ 0 → length rr ≡ 0 → ⊥) → (at < change_after lr at) × (at < change_after rr at)
 at_lt-end [] [] at a b l r some = absurd (some refl refl)
-at_lt-end [] (j ∷ js) at a b l r some = let right = at_lt-stretch_end at j js b in (omega arith, right)
-at_lt-end (i ∷ is) [] at a b l r some = let left = at_lt-stretch_end at i is a in (left, omega arith)
-at_lt-end (i ∷ is) (j ∷ js) at a b l r some = (at_lt-stretch_end at i is a, at_lt-stretch_end at j js b)
+at_lt-end [] (j ∷ js) at a b l r some = let right = at_lt-change_after at j js b in (omega arith, right)
+at_lt-end (i ∷ is) [] at a b l r some = let left = at_lt-change_after at i is a in (left, omega arith)
+at_lt-end (i ∷ is) (j ∷ js) at a b l r some = (at_lt-change_after at i is a, at_lt-change_after at j js b)
 
 keeps_of-neither : (how : Combination) → keeps_of how false false ≡ false
 keeps_of-neither Both = refl

@@ -16,9 +16,9 @@ is_begun [] at = false
 is_begun (i ∷ is) at = nat_le i.first at
 
 -- the end of the first interval once it has begun, and until then its beginning
-abbrev pub stretch_end : List Interval → ℕ → ℕ
-stretch_end [] at = 4294967295
-stretch_end (i ∷ is) at = if nat_le i.first at then i.end else i.first
+abbrev pub change_after : List Interval → ℕ → ℕ
+change_after [] at = 4294967295
+change_after (i ∷ is) at = if nat_le i.first at then i.end else i.first
 
 -- the intervals without the first, if that ends at or before the number
 abbrev pub past_of : List Interval → ℕ → List Interval

@@ -1,6 +1,6 @@
 //! Two sets side by side: a sweep over the ends of their intervals.
 
-ghost use Rattle.dt_runs.specs.Combination.{keeps_of, is_begun, stretch_end, past_of};
+ghost use Rattle.dt_runs.specs.Combination.{keeps_of, is_begun, change_after, past_of};
 ghost use Rattle.dt_runs.specs.Intervals.{numbers_of, IsApart};
 ghost use Rattle.dt_runs.specs.Sets.{contains};
 ghost use Rattle.std.specs.List.{list_any};
@@ -50,8 +50,8 @@ pub(crate) fn combined(
     let mut right_rest = right;
     let mut at = 0;
     while !left_rest.is_empty() || !right_rest.is_empty() {
-        let (in_left, left_end) = stretch(left_rest, at);
-        let (in_right, right_end) = stretch(right_rest, at);
+        let (in_left, left_end) = until_change(left_rest, at);
+        let (in_right, right_end) = until_change(right_rest, at);
         let end = left_end.min(right_end);
         if combination.keeps(in_left, in_right) {
             kept.push_range(at, end)?;
@@ -82,10 +82,10 @@ pub(crate) fn have_common(left: &[Interval], right: &[Interval]) -> bool
     false
 }
 
-/// Whether the number `at` is in the first of the intervals, which ends after it, and how far this stays so.
-fn stretch(rest: &[Interval], at: u32) -> (bool, u32)
+/// Whether the number `at` is in the first of the intervals, which ends after it, and the number at which this changes.
+fn until_change(rest: &[Interval], at: u32) -> (bool, u32)
     ensures inside { result.0 ≡ is_begun rest.now at }
-    ensures end { result.1 ≡ stretch_end rest.now at }
+    ensures end { result.1 ≡ change_after rest.now at }
 {
     if rest.is_empty() {
         return (false, u32::MAX);

@@ -2,15 +2,21 @@
 
 ghost use Rattle.dt_base.specs.Rows.{product};
 ghost use Rattle.dt_runs.specs.Boxes.{AreCorners, box_numbers};
+ghost use Rattle.dt_runs.specs.Combs.{IsComb};
 ghost use Rattle.dt_runs.specs.Intervals.{range, numbers_of, IsApart, IsTallied, EndsBy};
 ghost use Rattle.dt_runs.specs.Sets.{contains};
+ghost use Rattle.dt_runs.specs.Stretches.{stretches_of};
+ghost use Rattle.dt_runs.specs.declared.comb.Comb.{Comb};
 ghost use Rattle.std.specs.List.{list_any};
-ghost use Rattle.std.specs.List.Sorted.{IsStrictlyIncreasing, IsPartitionPoint};
-ghost use Rattle.std.specs.Prelude.{◌^◌, ◌↔◌, IsTrue, ◌≡◌, ℕ, not, ◌||◌, filter, ◌+◌, ◌<◌, ◌≤◌, ◌==◌, ◌++◌, [], length, All, IfOk, OnOk, OnErr, slice_get, position};
+ghost use Rattle.std.specs.List.Sorted.{IsStrictlyIncreasing};
+ghost use Rattle.std.specs.Option.{option_map};
+ghost use Rattle.std.specs.Prelude.{IfSome, None, map, false, ◌-◌, ◌^◌, ◌↔◌, IsTrue, ◌≡◌, ℕ, not, ◌||◌, filter, ◌+◌, ◌<◌, ◌≤◌, ◌==◌, ◌++◌, [], length, All, IfOk, OnOk, OnErr, slice_get, position};
 
 use crate::boxes::{is_empty_box, push_box};
+use crate::comb::{Comb, comb_of};
 use crate::combine::{Combination, combined, have_common};
 use crate::interval::Interval;
+use crate::searches::{begun_by, rank_in, tallied_by};
 use dt_base::NoMemory;
 use std::alloc::Global;
 use std::marker::Model;
@@ -80,6 +86,7 @@ impl Runs {
         ensures apart { IsApart 0 result.now }
         ensures tallied { IsTallied 0 result.now }
         ensures small { EndsBy 4294967295 result.now }
+        ensures stretches { map (λ i. (i.first, i.end - 1)) result.now ≡ stretches_of self.now }
         ensures ascending { IsStrictlyIncreasing self.now }
         ensures below { All (λ x. x < 4294967295) self.now }
     {
@@ -114,11 +121,69 @@ impl Runs {
         if begun == 0 {
             return None;
         }
-        let interval = intervals[begun - 1];
-        if x >= interval.end {
+        rank_in(intervals, begun - 1, x)
+    }
+
+    /// As `rank`, at once where the interval with the number `near` has `x`, or the next one. The number of the
+    /// interval that has `x` is left in `near`; any number may stand there before.
+    pub fn rank_near(&self, x: u32, near: &mut u32) -> Option<u32>
+        ensures { result ≡ position (λ y. y == x) self.now }
+    {
+        let intervals = self.intervals();
+        let guess = *near;
+        if let Some(place) = rank_in(intervals, guess as usize, x) {
+            return Some(place);
+        }
+        let next = guess.saturating_add(1);
+        if let Some(place) = rank_in(intervals, next as usize, x) {
+            *near = next;
+            return Some(place);
+        }
+        let begun = begun_by(intervals, x);
+        if begun == 0 {
             return None;
         }
-        Some(interval.before + (x - interval.first))
+        let place = rank_in(intervals, begun - 1, x)?;
+        *near = (begun - 1) as u32;
+        Some(place)
+    }
+
+    /// How many numbers from `x` on follow each other in the set, `x` among them; none where it is not in the set.
+    pub fn stretch(&self, x: u32) -> u32
+        ensures places { (k : ℕ) → k < result → position (λ y. y == x + k) self.now
+            ≡ option_map (λ place. place + k) (position (λ y. y == x) self.now) }
+        ensures inside { (k : ℕ) → k < result → IsTrue (contains self.now (x + k)) }
+        ensures end { contains self.now (x + result) ≡ false }
+    {
+        let intervals = self.intervals();
+        let begun = begun_by(intervals, x);
+        if begun == 0 {
+            return 0;
+        }
+        let end = intervals[begun - 1].end;
+        if x >= end {
+            return 0;
+        }
+        end - x
+    }
+
+    /// The set as a comb, if all intervals are as long and as far apart. One interval is a comb; the empty set gets none.
+    pub fn comb(&self) -> Option<Comb>
+        ensures some { IfSome result (λ comb. IsComb comb self.now) }
+        ensures none { result ≡ None → (comb : Comb) → IsComb comb self.now → self.now ≡ [] }
+    {
+        comb_of(self.intervals())
+    }
+
+    /// The same set once more.
+    pub fn copied(&self, alloc: Global) -> Result<Runs, NoMemory>
+        ensures { IfOk result (λ runs. runs ≡ self.now) }
+    {
+        let intervals = Vec::from_slice(alloc, self.intervals.as_slice())?;
+        Ok(Runs {
+            intervals,
+            count: self.count,
+        })
     }
 
     /// The numbers that both have, in time linear in the intervals of both.
@@ -213,22 +278,4 @@ fn push_interval(
     }
     intervals.push(Interval { first, end, before })?;
     Ok(())
-}
-
-/// How many of the intervals begin at or before `x`.
-fn begun_by(intervals: &[Interval], x: u32) -> usize
-    requires { IsApart 0 intervals.now }
-    ensures bound { result ≤ length intervals.now }
-    ensures point { IsPartitionPoint (λ i. i.first ≤ x) (λ i. x < i.first) intervals.now result }
-{
-    intervals.partition_point(|interval| interval.first <= x)
-}
-
-/// How many of the intervals have at most `k` numbers before them.
-fn tallied_by(intervals: &[Interval], k: u32) -> usize
-    requires { IsTallied 0 intervals.now }
-    ensures bound { result ≤ length intervals.now }
-    ensures point { IsPartitionPoint (λ i. i.before ≤ k) (λ i. k < i.before) intervals.now result }
-{
-    intervals.partition_point(|interval| interval.before <= k)
 }

@@ -43,6 +43,11 @@ fn combines_two_sets(rt: HostRuntime) -> Result<(), Fail> {
     assert_eq!(rt; all.intervals(), [interval(0, 5, 0)].as_slice());
     assert!(rt; all.is_same(&low.union(alloc, &high)?));
     assert!(rt; high.is_same(&middle.minus(alloc, &low)?));
+    let first = Runs::from_sorted(alloc, &[0, 1, 2, 3])?;
+    assert_eq!(rt;
+        middle.minus(alloc, &first)?.intervals(),
+        [interval(4, 5, 0)].as_slice()
+    );
     assert_eq!(rt;
         low.meet(alloc, &middle)?.intervals(),
         [interval(1, 2, 0)].as_slice()
@@ -88,5 +93,62 @@ fn has_the_last_numbers(rt: HostRuntime) -> Result<(), Fail> {
     )?;
     assert!(rt; listed.is_same(&corner));
     assert_eq!(rt; listed.rank(4_294_967_294), Some(1));
+    Ok(())
+}
+
+#[test]
+fn finds_places_near(rt: HostRuntime) -> Result<(), Fail> {
+    let runs = Runs::from_sorted(rt.alloc(), &[0, 1, 4, 5, 8])?;
+    let rows = [
+        (5, 1, Some(3), 1),
+        (8, 1, Some(4), 2),
+        (0, 2, Some(0), 0),
+        (4, 4_294_967_295, Some(2), 1),
+        (3, 1, None, 1),
+    ];
+    for (x, before, rank, after) in rows {
+        let mut near = before;
+        assert_eq!(rt; runs.rank_near(x, &mut near), rank);
+        assert_eq!(rt; near, after);
+    }
+    Ok(())
+}
+
+#[test]
+fn measures_stretches(rt: HostRuntime) -> Result<(), Fail> {
+    let runs = Runs::from_sorted(rt.alloc(), &[0, 1, 4, 5])?;
+    for (x, stretch) in [(0, 2), (1, 1), (2, 0), (3, 0), (4, 2), (6, 0)] {
+        assert_eq!(rt; runs.stretch(x), stretch);
+    }
+    let copy = runs.copied(rt.alloc())?;
+    assert!(rt; copy.is_same(&runs));
+    assert_eq!(rt; copy.count(), 4);
+    Ok(())
+}
+
+// A comb in a table of expected ones.
+fn comb(low: u32, len: u32, dist: u32) -> Option<Comb> {
+    Some(Comb { low, len, dist })
+}
+
+#[test]
+fn finds_combs(rt: HostRuntime) -> Result<(), Fail> {
+    let alloc = rt.alloc();
+    steps_in_combs();
+    let rows = [
+        ([1, 2, 3, 4], comb(1, 4, 4)),
+        ([0, 1, 4, 5], comb(0, 2, 4)),
+        ([1, 3, 5, 7], comb(1, 1, 2)),
+        ([0, 2, 4, 7], None),
+        ([0, 1, 3, 5], None),
+        ([0, 2, 3, 5], None),
+    ];
+    for (numbers, expected) in rows {
+        let runs = Runs::from_sorted(alloc, &numbers)?;
+        assert_eq!(rt; runs.comb(), expected);
+    }
+    let square = Runs::of_box(alloc, &[4, 4], &[1, 1], &[3, 3])?;
+    assert_eq!(rt; square.comb(), comb(5, 2, 4));
+    assert_eq!(rt; Runs::empty(alloc).comb(), None);
     Ok(())
 }

@@ -1,3 +1,3 @@
-mod EachFacts
-mod Forms
-mod LineFacts
+pub mod EachFacts
+pub mod Forms
+pub mod LineFacts

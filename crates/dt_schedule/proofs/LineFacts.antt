@@ -1,28 +1,139 @@
--- What a command and a command line keep, by what they answer.
-use Rattle.std.proofs.Common.{ℕ, List, Result, Ok, Err, IfOk, sym, subst}
+-- What a command line keeps, by what it answers.
+use Rattle.std.proofs.Common.{◌≡◌, ℕ, Bool, true, false, List, [], ◌∷◌, Option, Some, None, codes, Result, Ok, Err, IfOk, refl, sym, subst, if◌then◌else◌}
+use Rattle.std.specs.Str.{bytes_eq}
+use Rattle.dt_model.specs.declared.cause.Cause.{Cause}
 use Rattle.dt_model.specs.Positions.{StoredTensor}
+use Rattle.dt_model.specs.Steps.{◌>>=◌, none}
 use Rattle.dt_nest.specs.declared.commands.RewriteEnd.{RewriteEnd}
 use Rattle.dt_nest.specs.Schedule.{Schedule}
 use Rattle.dt_nest.specs.Lawful.{IsLawful}
-use Rattle.dt_nest.specs.Commands.{Answers, KeepsSum}
 use Rattle.dt_nest.specs.FitsStored.{FitsStored}
-use Rattle.dt_rewrite.specs.Kept.{KeepsAccesses}
+use Rattle.dt_nest.specs.Grid.{IsOnGrid}
+use Rattle.dt_nest.specs.Commands.{Answers, KeepsSum, KeepsAccesses}
 use Rattle.dt_schedule.specs.declared.commands.Command.{Command}
-use Rattle.dt_schedule.specs.Commands.{AnswersLine, NamesLoops, cause_of, command_line, effect_of}
-use Rattle.dt_schedule.specs.CommandLaws.{command_keeps, line_fits, line_keeps_accesses}
+use Rattle.dt_schedule.specs.declared.commands.Command.TheVariants as command
+use Rattle.dt_schedule.specs.CommandForms.{two_loops_of, split_of, divide_of, names_of, loops_of, tensors_of, loop_of, reorder_of, collapse_of, rotate_names, rotate_of, distribute_of, communicate_names, communicate_of, layout_of, command_of}
+use Rattle.dt_schedule.specs.Commands.{AnswersLine, LineKeeps, command_line, rule_of}
+use Rattle.dt_schedule.specs.CommandLaws.{command_keeps}
 
--- a command that is done keeps the sum
-pub answers_keep : (c : Command) (s : Schedule) → IsLawful s → NamesLoops c s → (r : Result Schedule RewriteEnd) → Answers (cause_of c s) (effect_of c s) s r → IfOk r (λ new. KeepsSum s new)
-answers_keep c s l k (Ok new) a = subst (KeepsSum s) (sym a.1) (command_keeps c s l k a.0)
-answers_keep c s l k (Err end) a = tt
+-- The command of a line ---------------------------------------------------------------------------------------------------
 
--- stored tensors fit the schedule after a line that is done
-pub answers_fit : (s : Schedule) (grid : List ℕ) (words : List (List ℕ)) → IsLawful s → (stored : List StoredTensor) → FitsStored stored s → (r : Result Schedule RewriteEnd)
-    → AnswersLine s (command_line s grid words) r → IfOk r (λ new. FitsStored stored new)
-answers_fit s grid words l stored f (Ok new) a = line_fits s grid words new l stored a f
-answers_fit s grid words l stored f (Err end) a = tt
+-- the command is for the machine, and all tensors suit it
+abbrev pub IsFor : Schedule → List ℕ → Command → Type 0
+IsFor s grid c = (rule_of c).serves grid × ((stored : List StoredTensor) → (rule_of c).suits stored s)
 
--- a line that is done keeps what is written and read
-pub answers_stay : (s : Schedule) (grid : List ℕ) (words : List (List ℕ)) (r : Result Schedule RewriteEnd) → AnswersLine s (command_line s grid words) r → IfOk r (λ new. KeepsAccesses s new)
-answers_stay s grid words (Ok new) a = line_keeps_accesses s grid words new a
-answers_stay s grid words (Err end) a = tt
+-- what holds of each result of the next step holds after it
+after : {A : Type 0} (P : Command → Type 0) (r : Result A Cause) (k : A → Result Command Cause) → ((x : A) → IfOk (k x) P) → IfOk (r >>= k) P
+after P (Ok x) k h = h x
+after P (Err e) k h = tt
+
+-- what holds of both holds of either
+either : (P : Command → Type 0) (b : Bool) (x y : Result Command Cause) → IfOk x P → IfOk y P → IfOk (if b then x else y) P
+either P true x y p q = p
+either P false x y p q = q
+
+module _ (s : Schedule) (grid : List ℕ) where
+  split_for : (words : List (List ℕ)) → IfOk (split_of s words) (IsFor s grid)
+  unfolding split_of
+  split_for words = after (IsFor s grid) (two_loops_of s words) _ (λ t. (tt, λ stored. tt))
+
+  divide_for : (words : List (List ℕ)) → IfOk (divide_of s words) (IsFor s grid)
+  unfolding divide_of
+  divide_for words = after (IsFor s grid) (two_loops_of s words) _ (λ t. (tt, λ stored. tt))
+
+  reorder_for : (words : List (List ℕ)) → IfOk (reorder_of s words) (IsFor s grid)
+  unfolding reorder_of
+  reorder_for words = after (IsFor s grid) (names_of words) _ (λ names. after (IsFor s grid) _ _ (λ u. after (IsFor s grid) (loops_of s names) _ (λ vars. (tt, λ stored. tt))))
+
+  collapse_for : (words : List (List ℕ)) → IfOk (collapse_of s words) (IsFor s grid)
+  unfolding collapse_of
+  collapse_for [] = tt
+  collapse_for (a ∷ []) = tt
+  collapse_for (a ∷ b ∷ []) = tt
+  collapse_for (a ∷ b ∷ fused ∷ []) = after (IsFor s grid) _ _ (λ u. after (IsFor s grid) (loop_of s a) _ (λ outer. after (IsFor s grid) (loop_of s b) _ (λ inner. (tt, λ stored. tt))))
+  collapse_for (a ∷ b ∷ c ∷ d ∷ words) = tt
+
+  rotate_for : (words : List (List ℕ)) → IfOk (rotate_of s words) (IsFor s grid)
+  unfolding rotate_of rotate_names
+  rotate_for words = after (IsFor s grid) (names_of words) _ named
+    where
+      named : (names : List (List ℕ)) → IfOk (rotate_names s names) (IsFor s grid)
+      named [] = tt
+      named (t ∷ names) = after (IsFor s grid) _ _ (λ u. after (IsFor s grid) (loop_of s t) _ (λ var. after (IsFor s grid) (loops_of s _) _ (λ by. (tt, λ stored. tt))))
+
+  distribute_for : (words : List (List ℕ)) → IfOk (distribute_of s grid words) (IsFor s grid)
+  unfolding distribute_of
+  distribute_for words = after (IsFor s grid) (names_of words) _ (λ names. after (IsFor s grid) _ _ (λ u. after (IsFor s grid) (loops_of s names) _ (λ vars. (refl, λ stored. tt))))
+
+  communicate_for : (words : List (List ℕ)) → IfOk (communicate_of s words) (IsFor s grid)
+  unfolding communicate_of communicate_names
+  communicate_for words = after (IsFor s grid) (names_of words) _ named
+    where
+      named : (names : List (List ℕ)) → IfOk (communicate_names s names) (IsFor s grid)
+      named [] = tt
+      named (v ∷ names) = after (IsFor s grid) _ _ (λ u. after (IsFor s grid) (loop_of s v) _ (λ var. after (IsFor s grid) (tensors_of s names) _ (λ tensors. (tt, λ stored. tt))))
+
+  -- the command of a line is for the machine whose dimensions it gets
+  pub command_for : (words : List (List ℕ)) → IfOk (command_of s grid words) (IsFor s grid)
+  unfolding command_of layout_of
+  command_for [] = tt
+  command_for (word ∷ words) =
+      either (IsFor s grid) (bytes_eq word (codes "split")) _ _ (split_for words)
+      (either (IsFor s grid) (bytes_eq word (codes "divide")) _ _ (divide_for words)
+      (either (IsFor s grid) (bytes_eq word (codes "reorder")) _ _ (reorder_for words)
+      (either (IsFor s grid) (bytes_eq word (codes "collapse")) _ _ (collapse_for words)
+      (either (IsFor s grid) (bytes_eq word (codes "rotate")) _ _ (rotate_for words)
+      (either (IsFor s grid) (bytes_eq word (codes "distribute")) _ _ (distribute_for words)
+      (either (IsFor s grid) (bytes_eq word (codes "communicate")) _ _ (communicate_for words) tt))))))
+
+-- What a line keeps -------------------------------------------------------------------------------------------------------
+
+-- a command of a line that is done keeps what a line keeps
+pub answers_keep : (s : Schedule) (grid : List ℕ) (words : List (List ℕ)) (c : Command) → IsLawful s → command_of s grid words ≡ Ok c → (rule_of c).can s → (r : Result Schedule RewriteEnd)
+    → Answers ((rule_of c).cause s) ((rule_of c).effect s) s r → IfOk r (λ new. LineKeeps grid s new)
+answers_keep s grid words c l e k (Ok new) a =
+    let for : IsFor s grid c = subst (λ (r : Result Command Cause). IfOk r (IsFor s grid)) e (command_for s grid words) in
+    let t = command_keeps c s l k a.0 in
+    subst (LineKeeps grid s) (sym a.1) (record { sum = t.sum; accesses = t.accesses; fit = λ stored f. t.fit stored (for.1 stored) f; grid = λ g. t.grid grid for.0 g })
+answers_keep s grid words c l e k (Err end) a = tt
+
+-- so the parts of that
+pub keeps_sum : (s : Schedule) (grid : List ℕ) (r : Result Schedule RewriteEnd) → IfOk r (λ new. LineKeeps grid s new) → IfOk r (λ new. KeepsSum s new)
+keeps_sum s grid (Ok new) k = k.sum
+keeps_sum s grid (Err end) k = tt
+
+pub keeps_accesses : (s : Schedule) (grid : List ℕ) (r : Result Schedule RewriteEnd) → IfOk r (λ new. LineKeeps grid s new) → IfOk r (λ new. KeepsAccesses s new)
+keeps_accesses s grid (Ok new) k = k.accesses
+keeps_accesses s grid (Err end) k = tt
+
+pub keeps_fit : (s : Schedule) (grid : List ℕ) (stored : List StoredTensor) → FitsStored stored s → (r : Result Schedule RewriteEnd) → IfOk r (λ new. LineKeeps grid s new) → IfOk r (λ new. FitsStored stored new)
+keeps_fit s grid stored f (Ok new) k = k.fit stored f
+keeps_fit s grid stored f (Err end) k = tt
+
+pub keeps_grid : (s : Schedule) (grid : List ℕ) (r : Result Schedule RewriteEnd) → IfOk r (λ new. LineKeeps grid s new) → IfOk r (λ new. IsOnGrid grid s → IsOnGrid grid new)
+keeps_grid s grid (Ok new) k = k.grid
+keeps_grid s grid (Err end) k = tt
+
+-- No command that there is makes workspaces -------------------------------------------------------------------------------
+
+same_works : (c : Command) (s : Schedule) → ((rule_of c).effect s).works ≡ s.works
+same_works (command.Split c) s = refl
+same_works (command.Divide c) s = refl
+same_works (command.Reorder c) s = refl
+same_works (command.Collapse c) s = refl
+same_works (command.Rotate c) s = refl
+same_works (command.Distribute c) s = refl
+same_works (command.Communicate c) s = refl
+
+-- a line keeps the workspaces, until a command makes some
+pub line_works : (s : Schedule) (grid : List ℕ) (words : List (List ℕ)) (new : Schedule) → command_line s grid words ≡ Ok new → new.works ≡ s.works
+unfolding command_line
+line_works s grid words new h = read (command_of s grid words) h
+  where
+    tested : (c : Command) (cause : Option Cause) → (none cause >>= λ _. Ok ((rule_of c).effect s)) ≡ Ok new → new.works ≡ s.works
+    tested c None h = subst (λ (r : Result Schedule Cause). IfOk r (λ n. n.works ≡ s.works)) h (same_works c s)
+    tested c (Some cause) h = absurd (cc)
+
+    read : (r : Result Command Cause) → (r >>= λ c. none ((rule_of c).cause s) >>= λ _. Ok ((rule_of c).effect s)) ≡ Ok new → new.works ≡ s.works
+    read (Ok c) h = tested c ((rule_of c).cause s) h
+    read (Err cause) h = absurd (cc)

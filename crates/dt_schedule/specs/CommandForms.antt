@@ -8,7 +8,7 @@ use Rattle.dt_model.specs.declared.cause.Cause.TheVariants as cause
 use Rattle.dt_model.specs.Steps.{◌>>=◌, need, found}
 use Rattle.dt_nest.specs.Tree.{has_loop}
 use Rattle.dt_nest.specs.Schedule.{Schedule}
-use Rattle.dt_rewrite.specs.Communicates.{accesses_tensor}
+use Rattle.dt_nest.specs.Questions.{accesses_tensor}
 use Rattle.dt_schedule.specs.declared.two_loops.TwoLoops.{TwoLoops}
 use Rattle.dt_schedule.specs.declared.commands.Command.{Command}
 use Rattle.dt_schedule.specs.declared.commands.Command.TheVariants as command

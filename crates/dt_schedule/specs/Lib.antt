@@ -1,4 +1,3 @@
 pub mod Commands
 pub mod CommandForms
 pub mod CommandLaws
-pub mod CutStored

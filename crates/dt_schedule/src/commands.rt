@@ -1,6 +1,7 @@
 //! Commands: one type for all of them.
 
-use dt_nest::{Rewrite, RewriteEnd, Sched};
+use dt_model::Cause;
+use dt_nest::{Rewrite, SchedParts};
 use dt_rewrite::{Collapse, Communicate, Distribute, Divide, Reorder, Rotate, Split};
 use std::alloc::Global;
 
@@ -17,26 +18,34 @@ pub enum Command {
 }
 
 impl Rewrite for Command {
-    ghost use Rattle.dt_schedule.specs.Commands.{NamesLoops, cause_of, effect_of};
+    ghost use Rattle.dt_schedule.specs.Commands.{rule_of};
     ghost use Rattle.dt_schedule.specs.CommandLaws.{command_keeps};
 
-    ghost can_apply = { NamesLoops };
+    ghost rule = { rule_of };
 
-    ghost cause = { cause_of };
-
-    ghost effect = { effect_of };
-
-    ghost keeps_sum = { command_keeps };
-
-    fn apply(self, alloc: Global, sched: Sched) -> Result<Sched, RewriteEnd> {
+    fn first_cause(&self, parts: &SchedParts) -> Option<Cause> {
         match self {
-            Command::Split(command) => command.apply(alloc, sched),
-            Command::Divide(command) => command.apply(alloc, sched),
-            Command::Reorder(command) => command.apply(alloc, sched),
-            Command::Collapse(command) => command.apply(alloc, sched),
-            Command::Rotate(command) => command.apply(alloc, sched),
-            Command::Distribute(command) => command.apply(alloc, sched),
-            Command::Communicate(command) => command.apply(alloc, sched),
+            Command::Split(command) => command.first_cause(parts),
+            Command::Divide(command) => command.first_cause(parts),
+            Command::Reorder(command) => command.first_cause(parts),
+            Command::Collapse(command) => command.first_cause(parts),
+            Command::Rotate(command) => command.first_cause(parts),
+            Command::Distribute(command) => command.first_cause(parts),
+            Command::Communicate(command) => command.first_cause(parts),
         }
     }
+
+    fn applied(self, alloc: Global, parts: SchedParts) -> Result<SchedParts, SchedParts> {
+        match self {
+            Command::Split(command) => command.applied(alloc, parts),
+            Command::Divide(command) => command.applied(alloc, parts),
+            Command::Reorder(command) => command.applied(alloc, parts),
+            Command::Collapse(command) => command.applied(alloc, parts),
+            Command::Rotate(command) => command.applied(alloc, parts),
+            Command::Distribute(command) => command.applied(alloc, parts),
+            Command::Communicate(command) => command.applied(alloc, parts),
+        }
+    }
+
+    ghost keeps = { command_keeps };
 }

@@ -10,8 +10,7 @@ ghost use Rattle.dt_schedule.specs.CommandForms.{loop_of, loops_of, name_in, nam
 
 use dt_base::{Name, Names, Vars};
 use dt_model::{Cause, LineEnd};
-use dt_nest::{Sched, SchedParts};
-use dt_rewrite::has_loop;
+use dt_nest::{Sched, SchedParts, has_loop};
 use dt_text::{Token, is_name, word};
 use std::alloc::Global;
 

@@ -6,7 +6,7 @@ ghost use Rattle.dt_text.specs.Names.{is_name};
 ghost use Rattle.dt_text.specs.Spans.{IsToken, token_in};
 ghost use Rattle.dt_model.specs.Steps.{Gives};
 ghost use Rattle.dt_schedule.specs.CommandForms.{collapse_of, command_of, communicate_names, communicate_of, distribute_of, divide_of, layout_of, reorder_of, rotate_names, rotate_of, split_of};
-ghost use Rattle.dt_schedule.specs.Commands.{NamesLoops};
+ghost use Rattle.dt_schedule.specs.Commands.{rule_of};
 
 use crate::commands::Command;
 use crate::loop_names::{loop_named, loops_named, read_names};
@@ -24,7 +24,7 @@ use std::alloc::Global;
 fn read_split(text: &[u8], tokens: &[Token], sched: &Sched) -> Result<Command, LineEnd>
     requires { All (IsToken (length text.now)) tokens.now }
     ensures read { Gives (λ c. c) result (split_of sched.now (map (token_in text.now) tokens.now)) }
-    ensures known { IfOk result (λ c. NamesLoops c sched.now) }
+    ensures known { IfOk result (λ c. (rule_of c).can sched.now) }
 {
     let two = read_two_loops(text, tokens, sched)?;
     Ok(Command::Split(Split {
@@ -40,7 +40,7 @@ fn read_split(text: &[u8], tokens: &[Token], sched: &Sched) -> Result<Command, L
 fn read_divide(text: &[u8], tokens: &[Token], sched: &Sched) -> Result<Command, LineEnd>
     requires { All (IsToken (length text.now)) tokens.now }
     ensures read { Gives (λ c. c) result (divide_of sched.now (map (token_in text.now) tokens.now)) }
-    ensures known { IfOk result (λ c. NamesLoops c sched.now) }
+    ensures known { IfOk result (λ c. (rule_of c).can sched.now) }
 {
     let two = read_two_loops(text, tokens, sched)?;
     Ok(Command::Divide(Divide {
@@ -61,7 +61,7 @@ fn read_reorder(
 ) -> Result<Command, LineEnd>
     requires { All (IsToken (length text.now)) tokens.now }
     ensures read { Gives (λ c. c) result (reorder_of sched.now (map (token_in text.now) tokens.now)) }
-    ensures known { IfOk result (λ c. NamesLoops c sched.now) }
+    ensures known { IfOk result (λ c. (rule_of c).can sched.now) }
 {
     let names = read_names(alloc, text, tokens)?;
     let names = names.as_slice();
@@ -85,7 +85,7 @@ fn are_names(a: &[u8], b: &[u8], c: &[u8]) -> bool
 fn read_collapse(text: &[u8], tokens: &[Token], sched: &Sched) -> Result<Command, LineEnd>
     requires { All (IsToken (length text.now)) tokens.now }
     ensures read { Gives (λ c. c) result (collapse_of sched.now (map (token_in text.now) tokens.now)) }
-    ensures known { IfOk result (λ c. NamesLoops c sched.now) }
+    ensures known { IfOk result (λ c. (rule_of c).can sched.now) }
 {
     match tokens {
         [a, b, fused] => {
@@ -111,7 +111,7 @@ fn read_collapse(text: &[u8], tokens: &[Token], sched: &Sched) -> Result<Command
 #[tactic(auto, unfolding(crate::specs::CommandForms::rotate_names))]
 fn rotate_names(alloc: Global, sched: &Sched, names: &[Name]) -> Result<Command, LineEnd>
     ensures read { Gives (λ c. c) result (rotate_names sched.now names.now) }
-    ensures known { IfOk result (λ c. NamesLoops c sched.now) }
+    ensures known { IfOk result (λ c. (rule_of c).can sched.now) }
 {
     match names {
         [] => Err(LineEnd::Refused(Cause::Syntax)),
@@ -138,7 +138,7 @@ fn read_rotate(
 ) -> Result<Command, LineEnd>
     requires { All (IsToken (length text.now)) tokens.now }
     ensures read { Gives (λ c. c) result (rotate_of sched.now (map (token_in text.now) tokens.now)) }
-    ensures known { IfOk result (λ c. NamesLoops c sched.now) }
+    ensures known { IfOk result (λ c. (rule_of c).can sched.now) }
 {
     let names = read_names(alloc, text, tokens)?;
     rotate_names(alloc, sched, names.as_slice())
@@ -155,7 +155,7 @@ fn read_distribute(
 ) -> Result<Command, LineEnd>
     requires { All (IsToken (length text.now)) tokens.now }
     ensures read { Gives (λ c. c) result (distribute_of sched.now grid.now (map (token_in text.now) tokens.now)) }
-    ensures known { IfOk result (λ c. NamesLoops c sched.now) }
+    ensures known { IfOk result (λ c. (rule_of c).can sched.now) }
 {
     let names = read_names(alloc, text, tokens)?;
     let names = names.as_slice();
@@ -171,7 +171,7 @@ fn read_distribute(
 #[tactic(auto, unfolding(crate::specs::CommandForms::communicate_names))]
 fn communicate_names(alloc: Global, sched: &Sched, names: &[Name]) -> Result<Command, LineEnd>
     ensures read { Gives (λ c. c) result (communicate_names sched.now names.now) }
-    ensures known { IfOk result (λ c. NamesLoops c sched.now) }
+    ensures known { IfOk result (λ c. (rule_of c).can sched.now) }
 {
     match names {
         [] => Err(LineEnd::Refused(Cause::Syntax)),
@@ -196,7 +196,7 @@ fn read_communicate(
 ) -> Result<Command, LineEnd>
     requires { All (IsToken (length text.now)) tokens.now }
     ensures read { Gives (λ c. c) result (communicate_of sched.now (map (token_in text.now) tokens.now)) }
-    ensures known { IfOk result (λ c. NamesLoops c sched.now) }
+    ensures known { IfOk result (λ c. (rule_of c).can sched.now) }
 {
     let names = read_names(alloc, text, tokens)?;
     communicate_names(alloc, sched, names.as_slice())
@@ -214,7 +214,7 @@ fn read_layout(
 ) -> Result<Command, LineEnd>
     requires { All (IsToken (length text.now)) behind.now }
     ensures read { Gives (λ c. c) result (layout_of sched.now grid.now first.now (map (token_in text.now) behind.now)) }
-    ensures known { IfOk result (λ c. NamesLoops c sched.now) }
+    ensures known { IfOk result (λ c. (rule_of c).can sched.now) }
 {
     if first == b"distribute".as_slice() {
         read_distribute(alloc, text, behind, sched, grid)
@@ -236,7 +236,7 @@ pub fn read_command(
 ) -> Result<Command, LineEnd>
     requires { All (IsToken (length text.now)) tokens.now }
     ensures read { Gives (λ c. c) result (command_of sched.now grid.now (map (token_in text.now) tokens.now)) }
-    ensures known { IfOk result (λ c. NamesLoops c sched.now) }
+    ensures known { IfOk result (λ c. (rule_of c).can sched.now) }
 {
     match tokens {
         [] => Err(LineEnd::Refused(Cause::UnknownWord)),

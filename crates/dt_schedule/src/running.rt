@@ -2,10 +2,10 @@
 
 ghost use Rattle.std.specs.Prelude.{◌≡◌, ◌-◌, ◌^◌, ◌<◌, IfOk, length};
 ghost use Rattle.dt_text.specs.Tokens.{tokens_of};
-ghost use Rattle.dt_nest.specs.Commands.{KeepsSum};
+ghost use Rattle.dt_nest.specs.Commands.{KeepsAccesses, KeepsSum};
 ghost use Rattle.dt_nest.specs.FitsStored.{FitsStored};
-ghost use Rattle.dt_rewrite.specs.Kept.{KeepsAccesses};
-ghost use Rattle.dt_schedule.specs.Commands.{AnswersLine, command_line, NamesLoops};
+ghost use Rattle.dt_nest.specs.Grid.{IsOnGrid};
+ghost use Rattle.dt_schedule.specs.Commands.{AnswersLine, LineKeeps, command_line};
 
 use crate::commands::Command;
 use crate::reading::read_command;
@@ -25,7 +25,7 @@ pub(crate) fn commanded(
 ) -> Result<Sched, RewriteEnd>
     requires { length text.now < 2 ^ 32 - 1 }
     ensures answers { AnswersLine sched (command_line sched grid.now (tokens_of text.now)) result }
-    ensures keeps { IfOk result (λ s. KeepsSum sched s) }
+    ensures keeps { IfOk result (λ s. LineKeeps grid.now sched s) }
 {
     let _lawful = sched.parts();
     let tokens = match words(alloc, text) {
@@ -56,7 +56,7 @@ pub fn run_command<L: Locator>(
     ensures keeps { IfOk result (λ s. KeepsSum sched s) }
     ensures fits { IfOk result (λ s. FitsStored (L.tensors loc.now) s) }
     ensures stays { IfOk result (λ s. KeepsAccesses sched s) }
+    ensures grid { IfOk result (λ s. IsOnGrid grid.now sched → IsOnGrid grid.now s) }
 {
-    let _lawful = sched.parts();
     commanded(alloc, sched, text, grid)
 }

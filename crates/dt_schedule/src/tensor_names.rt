@@ -9,8 +9,7 @@ ghost use Rattle.dt_schedule.specs.CommandForms.{tensor_of, tensors_of};
 use crate::loop_names::place;
 use dt_base::{Name, Vars};
 use dt_model::{Cause, LineEnd};
-use dt_nest::{Sched, SchedParts};
-use dt_rewrite::accesses_tensor;
+use dt_nest::{Sched, SchedParts, accesses_tensor};
 use std::alloc::Global;
 
 /// The number of the tensor with this name: UnknownTensor where the statement doesn't access it.

@@ -9,7 +9,7 @@ use Rattle.dt_model.specs.Shape.{dims, IsShape}
 use Rattle.dt_model.specs.WholeTensor.{WholeTensor}
 use Rattle.dt_model.specs.declared.shape.Shape.{Shape}
 use Rattle.dt_tensor.specs.Packed.{IsPacked, number_in, whole_of, dense_levels, dense_tensor}
-use Rattle.dt_tensor.proofs.Assignments.{length-assignments, row_major-assignment, position-assignments}
+use Rattle.dt_base.proofs.Assignments.{length-assignments, row_major-assignment, position-assignments}
 
 -- a test that always passes
 list_all-always : {A : Type 0} (p : A → Bool) (xs : List A) → ((x : A) → p x ≡ true) → list_all p xs ≡ true

@@ -13,7 +13,7 @@ use Rattle.dt_tensor.specs.Packing.{given_at, offence, first_offence}
 use Rattle.dt_tensor.specs.declared.entry.Given.{Given}
 use Rattle.dt_tensor.specs.declared.packing.PackEnd.{PackEnd}
 use Rattle.dt_tensor.specs.declared.packing.PackEnd.TheVariants as ends
-use Rattle.dt_model.proofs.Firsts.{bytes_eq-same, bytes_eq-apart, find-below-none, find-below-some}
+use Rattle.dt_base.proofs.Firsts.{bytes_eq-same, bytes_eq-apart, find-below-none, find-below-some}
 use Rattle.dt_tensor.proofs.Tables.{table-there, table-same, table-set, table-kept}
 
 -- whether one of these entries has these coordinates

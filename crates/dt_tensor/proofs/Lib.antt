@@ -1,5 +1,3 @@
-pub mod Assignments
-pub mod Coordinates
 pub mod DenseTensors
 pub mod EntryLemmas
 pub mod PackLemmas

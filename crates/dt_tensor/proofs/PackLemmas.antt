@@ -12,7 +12,7 @@ use Rattle.dt_tensor.specs.Packing.{given_at, first_offence, packed_by, packed_o
 use Rattle.dt_tensor.specs.declared.entry.Given.{Given}
 use Rattle.dt_tensor.specs.declared.packing.PackEnd.{PackEnd}
 use Rattle.dt_tensor.specs.declared.packing.PackEnd.TheVariants as ends
-use Rattle.dt_tensor.proofs.Assignments.{length-assignments}
+use Rattle.dt_base.proofs.Assignments.{length-assignments}
 use Rattle.dt_tensor.proofs.DenseTensors.{stored_coords-dense, whole_of-dense, whole_with}
 use Rattle.dt_tensor.proofs.Tables.{length-table}
 

@@ -5,7 +5,7 @@ use Rattle.std.proofs.lemmas.Bool.{le-leb, lt-leb, lt-ltb, and_from, and_left, a
 use Rattle.dt_model.specs.Positions.{StoredTensor, is_front, is_stored_prefix, next_child_of}
 use Rattle.dt_tensor.specs.Packed.{dense_levels}
 use Rattle.dt_base.specs.Ranges.{assignments}
-use Rattle.dt_model.proofs.Firsts.{find-below-none, find-below-some}
+use Rattle.dt_base.proofs.Firsts.{find-below-none, find-below-some}
 use Rattle.dt_tensor.proofs.DenseTensors.{is_followed-dense}
 
 -- one more coordinate of a front

@@ -6,7 +6,7 @@ use Rattle.std.proofs.lemmas.List.{length-map, get_or-map, same_lists, drop_all,
 use Rattle.dt_base.specs.Ranges.{assignments}
 use Rattle.dt_base.specs.Rows.{product, row_major}
 use Rattle.dt_base.proofs.Rows.{row_major-below}
-use Rattle.dt_tensor.proofs.Assignments.{length-assignments, row_major-assignment, assignment-row_major}
+use Rattle.dt_base.proofs.Assignments.{length-assignments, row_major-assignment, assignment-row_major}
 
 -- a table has a value for each number
 pub length-table : {A : Type 0} (f : List ℕ → A) (ns : List ℕ) → length (map f (assignments ns)) ≡ product ns

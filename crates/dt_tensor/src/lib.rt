@@ -3,6 +3,7 @@
 
 mod dense;
 mod entry;
+mod levels;
 mod packing;
 mod tensor;
 mod tensors;
@@ -11,6 +12,7 @@ mod tests;
 
 pub use dense::DenseLevels;
 pub use entry::{Entries, Given};
+pub use levels::Levels;
 pub use packing::{PackEnd, pack};
 pub use tensor::Tensor;
 pub use tensors::Tensors;

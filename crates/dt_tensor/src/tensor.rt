@@ -92,6 +92,15 @@ impl Tensor {
         Ok(Whole::from_values(self.shape, values))
     }
 
+    /// Where the words lie, and the number at each index. The numbers are moved.
+    pub(crate) fn into_whole(self) -> (DenseLevels, Whole)
+        ensures levels { result.0 ≡ stored_of self }
+        ensures whole { result.1 ≡ whole_of self }
+    {
+        let Tensor { shape, values } = self;
+        (DenseLevels::new(shape), Whole::from_values(shape, values))
+    }
+
     /// Where the words lie.
     pub(crate) fn levels(&self) -> DenseLevels
         ensures { result ≡ stored_of self.now }

@@ -2,9 +2,11 @@
 
 ghost use Rattle.std.specs.Prelude.{◌≡◌, ◌<◌, Some, length, slice_get};
 
+use crate::levels::Levels;
 use crate::tensor::Tensor;
-use dt_base::Coords;
-use dt_model::{Locator, Shape};
+use dt_base::{Coords, NoMemory};
+use dt_model::{Locator, Shape, Whole};
+use std::alloc::Global;
 use std::marker::Model;
 
 /// Tensors by number.
@@ -23,6 +25,9 @@ impl Model for Tensors {
 }
 
 impl Tensors {
+    ghost use Rattle.std.specs.Prelude.{IfOk, map};
+    ghost use Rattle.dt_tensor.specs.Packed.{stored_of, whole_of};
+
     /// The tensors of a list, by their places in it.
     pub fn from_list(list: Vec<Tensor>) -> Tensors
         ensures { result ≡ list.items }
@@ -47,6 +52,22 @@ impl Tensors {
         ensures { slice_get self.now tensor ≡ Some result.now }
     {
         &self.items.as_slice()[tensor as usize]
+    }
+
+    /// Where the words of each tensor lie, and the number at each of its indices. The numbers are moved.
+    pub fn into_wholes(self, alloc: Global) -> Result<(Levels, Vec<Whole>), NoMemory>
+        ensures levels { IfOk result (λ r. r.0 ≡ map stored_of self) }
+        ensures wholes { IfOk result (λ r. r.1.items ≡ map whole_of self) }
+    {
+        let Tensors { items } = self;
+        let mut all = Levels::new(alloc);
+        let mut wholes = Vec::new(alloc);
+        for tensor in items {
+            let (levels, whole) = tensor.into_whole();
+            all.push(levels)?;
+            wholes.push(whole)?;
+        }
+        Ok((all, wholes))
     }
 }
 

@@ -41,6 +41,21 @@ fn entries_are_packed(rt: HostRuntime) -> Result<(), Fail> {
 }
 
 #[test]
+fn numbers_are_moved(rt: HostRuntime) -> Result<(), Fail> {
+    let shape = Shape::from_extents(&[2, 3]).ok_or("no shape")?;
+    let entries = given(rt.alloc(), &[(1, 2, 7)])?;
+    assert!(rt; shape.order == 2 && entries.as_slice().len() == 1);
+    let mut list = Vec::new(rt.alloc());
+    list.push(pack(rt.alloc(), shape, [false; 4], &entries).map_err(|_| "not packed")?)?;
+    let (levels, wholes) = Tensors::from_list(list).into_wholes(rt.alloc())?;
+    assert_eq!(rt; levels.place(0, &[1, 2]), Some(5));
+    for whole in wholes.as_slice() {
+        assert_eq!(rt; whole.values(), [0, 0, 0, 0, 0, 7].as_slice());
+    }
+    Ok(())
+}
+
+#[test]
 fn wrong_entries_are_told(rt: HostRuntime) -> Result<(), Fail> {
     let cases: [([u32; 2], &[Entry], PackEnd); 5] = [
         (

@@ -8,7 +8,7 @@ use dt_base::NoMemory;
 use dt_bounds::{is_path, needed};
 use dt_copy::{Pieces, pieces};
 use dt_job::Job;
-use dt_place::home;
+use dt_place::{Homes, homes_on};
 use dt_runs::Runs;
 use std::alloc::Global;
 
@@ -20,17 +20,13 @@ pub struct Wanted {
 }
 
 /// The homes of a tensor of the job, one for each node.
-fn homes(alloc: Global, job: &Job, tensor: u32) -> Result<Vec<Runs>, NoMemory>
+fn homes(alloc: Global, job: &Job, tensor: u32) -> Result<Homes, NoMemory>
     requires job { IsJob job.now }
     requires tensor { tensor < length job.now.tensors }
-    ensures { IfOk result (λ homes. length homes.items ≡ nodes_of job.now.machine) }
+    ensures { IfOk result (λ homes. length homes ≡ nodes_of job.now.machine) }
 {
     let placement = &job.places.as_slice()[tensor as usize];
-    let mut homes = Vec::new(alloc);
-    for node in 0..job.machine.nodes() {
-        homes.push(home(alloc, placement, &job.machine, &job.tensors, tensor, node)?)?;
-    }
-    Ok(homes)
+    homes_on(alloc, placement, &job.machine, &job.tensors, tensor)
 }
 
 /// What a node copies of a tensor for a path of the job's first statement, and none where one of them isn't there.

@@ -1,7 +1,9 @@
 pub mod LineLemmas
 pub mod LineWords
 pub mod NumberLemmas
-pub mod Places
+pub mod PartLemmas
 pub mod Pieces
+pub mod Places
 pub mod TokenLemmas
+pub mod TokenLists
 pub mod WordLemmas

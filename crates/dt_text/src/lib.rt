@@ -5,16 +5,16 @@ mod line;
 mod line_bytes;
 mod names;
 mod numbers;
-#[cfg(test)]
-mod tests;
 mod text_end;
 mod token_list;
+mod token_parts;
 mod token_spans;
 
 pub use line::{Line, next_line};
 pub use line_bytes::behind_blanks;
 pub use names::{is_name, is_name_byte};
-pub use numbers::{is_numeral, number};
+pub use numbers::{all_numbers, are_all_numerals, is_numeral, number};
 pub use text_end::TextEnd;
 pub use token_list::{Token, Tokens};
+pub use token_parts::parts_at;
 pub use token_spans::{after_word, tokens, word, words};

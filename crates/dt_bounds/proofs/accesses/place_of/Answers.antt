@@ -1,7 +1,7 @@
 use Rattle.std.proofs.Common.{◌≡◌, map, ◌∙◌, ap}
 use Rattle.std.specs.Prelude.{min}
 use Rattle.dt_model.specs.Positions.{tensor_at}
-use Rattle.dt_bounds.specs.Points.{env_at}
+use Rattle.dt_nest.specs.Point.{env_at}
 use Rattle.dt_bounds.proofs.Places.{access-place}
 use Rattle.dt_bounds.proofs.accesses.place_of.Goals as goal
 

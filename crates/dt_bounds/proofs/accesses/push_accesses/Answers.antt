@@ -1,7 +1,8 @@
 use Rattle.std.proofs.Common.{length}
 use Rattle.std.proofs.lemmas.Result.{on_ok_weaker}
 use Rattle.dt_model.specs.Positions.{StoredTensor, tensor_at}
-use Rattle.dt_bounds.specs.Points.{accesses_in, env_at, is_reached, last_touches}
+use Rattle.dt_nest.specs.Point.{env_at}
+use Rattle.dt_bounds.specs.Points.{accesses_in, is_reached, last_touches}
 use Rattle.std.proofs.Common.{None}
 use Rattle.dt_bounds.proofs.Additions.{adds_same}
 use Rattle.dt_bounds.proofs.Lanes.{plain_touched}

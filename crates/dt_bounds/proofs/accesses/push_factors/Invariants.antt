@@ -2,7 +2,8 @@ use Rattle.std.proofs.Common.{take}
 use Rattle.std.specs.List.{flat_map}
 use Rattle.dt_model.specs.Positions.{tensor_at}
 use Rattle.dt_nest.specs.Tree.{factor_accesses}
-use Rattle.dt_bounds.specs.Points.{AddsReached, env_at}
+use Rattle.dt_nest.specs.Point.{env_at}
+use Rattle.dt_bounds.specs.Points.{AddsReached}
 use Rattle.dt_bounds.proofs.accesses.push_factors.Given as goal
 
 abbrev pub invariant-loop-factor : goal.invariant-loop-factor

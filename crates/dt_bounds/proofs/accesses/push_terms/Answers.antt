@@ -3,7 +3,8 @@ use Rattle.std.specs.List.{AllByRecursion, flat_map}
 use Rattle.dt_model.specs.declared.stmt.Factor.{Factor}
 use Rattle.dt_model.specs.declared.stmt.Term.{Term}
 use Rattle.dt_nest.specs.Tree.{factor_accesses}
-use Rattle.dt_bounds.specs.Points.{AreValuedAt, HasValueAt}
+use Rattle.dt_nest.specs.Point.{HasValueAt}
+use Rattle.dt_bounds.specs.Points.{AreValuedAt}
 use Rattle.dt_bounds.proofs.Additions.{all_part}
 use Rattle.dt_bounds.proofs.accesses.push_terms.Goals as goal
 

@@ -1,7 +1,8 @@
 use Rattle.std.proofs.Common.{take}
 use Rattle.dt_model.specs.Positions.{tensor_at}
 use Rattle.dt_nest.specs.Tree.{read_accesses}
-use Rattle.dt_bounds.specs.Points.{AddsReached, env_at}
+use Rattle.dt_nest.specs.Point.{env_at}
+use Rattle.dt_bounds.specs.Points.{AddsReached}
 use Rattle.dt_bounds.proofs.accesses.push_terms.Given as goal
 
 abbrev pub invariant-loop-term : goal.invariant-loop-term

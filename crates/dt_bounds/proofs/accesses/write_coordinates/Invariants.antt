@@ -1,6 +1,6 @@
 use Rattle.std.proofs.Common.{◌≡◌, map, take}
 use Rattle.std.specs.Prelude.{min}
-use Rattle.dt_bounds.specs.Points.{env_at}
+use Rattle.dt_nest.specs.Point.{env_at}
 use Rattle.dt_bounds.proofs.accesses.write_coordinates.Given as goal
 
 abbrev pub invariant-loop-var : goal.invariant-loop-var

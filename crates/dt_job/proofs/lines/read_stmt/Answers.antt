@@ -4,7 +4,7 @@ use Rattle.dt_index.specs.Known.{shapes_of_known}
 use Rattle.dt_nest.specs.Chain.{IsSchedulable, MeansStmt}
 use Rattle.dt_nest.proofs.Schedulable.{schedulable}
 use Rattle.dt_job.specs.Contents.{Contents, extents_of_all, known_of, names_of}
-use Rattle.dt_job.specs.Drafts.{IsScheduled}
+use Rattle.dt_job.specs.Drafts.{IsScheduled, grid_of}
 use Rattle.dt_job.specs.Jobs.{IsJobStmt}
 use Rattle.dt_job.specs.Lines.{scheduled_of}
 use Rattle.dt_job.specs.declared.scheduled.Scheduled.{Scheduled}
@@ -37,4 +37,4 @@ open-requires-clause-lawful c =
       small = c.in_ok-stmt.ensures.small;
       unread = c.in_ok-stmt.ensures.unread;
     } in
-    subst (IsScheduled tensors) (sym is) (record { stmt = stands; part = first_part tensors c.in_ok-stmt.stmt c.in_ok-stmt.vars (subst M is c.in_ok-scheduled.ensures.means) stands c.names.ensures.lawful.stored })
+    subst (IsScheduled (grid_of c.args.draft.now.machine) tensors) (sym is) (record { stmt = stands; part = first_part (grid_of c.args.draft.now.machine) tensors c.in_ok-stmt.stmt c.in_ok-stmt.vars (subst M is c.in_ok-scheduled.ensures.means) stands c.names.ensures.lawful.stored })

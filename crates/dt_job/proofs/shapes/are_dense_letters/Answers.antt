@@ -1,6 +1,6 @@
 use Rattle.std.proofs.Common.{arith, ◌∙◌, sym}
 use Rattle.dt_job.specs.Shapes.{is_dense_letter}
-use Rattle.dt_place.proofs.WordLists.{words_end, words_more, words_stop}
+use Rattle.dt_text.proofs.TokenLists.{words_end, words_more, words_stop}
 use Rattle.dt_job.proofs.shapes.are_dense_letters.Goals as goal
 
 pub returns-then-not-is_dense_letter : goal.returns-then-not-is_dense_letter

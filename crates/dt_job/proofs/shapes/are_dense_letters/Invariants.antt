@@ -2,7 +2,7 @@ use Rattle.std.proofs.Common.{◌≡◌, map}
 use Rattle.std.specs.List.{list_all}
 use Rattle.dt_text.specs.Spans.{token_in}
 use Rattle.dt_job.specs.Shapes.{is_dense_letter}
-use Rattle.dt_place.proofs.WordLists.{words_from}
+use Rattle.dt_text.proofs.TokenLists.{words_from}
 use Rattle.dt_job.proofs.shapes.are_dense_letters.Given as goal
 
 abbrev pub invariant-loop-token : goal.invariant-loop-token

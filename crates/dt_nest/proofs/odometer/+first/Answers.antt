@@ -1,11 +1,11 @@
-use Rattle.std.proofs.Common.{rules, ◌≡◌, ◌+◌, ◌<◌, ℕ, [], ◌∷◌, length, sym, ap, ◌∙◌, subst, refl, arith}
+use Rattle.std.proofs.Common.{rules, ◌≡◌, ◌+◌, ◌<◌, ◌^◌, ℕ, [], ◌∷◌, length, sym, ap, ◌∙◌, subst, refl, arith}
 use Rattle.dt_nest.specs.Tree.{Tree, tree_of, Loop, leaf_count, is_kernel_leaf}
 use Rattle.dt_nest.specs.Naming.{pairs_in}
 use Rattle.dt_nest.specs.Visits.{IsPathIn, is_valid}
 use Rattle.dt_nest.specs.Odometer.{HaveSlots, guards_of}
 use Rattle.std.proofs.lemmas.Grind.{common_steps}
-use Rattle.dt_nest.proofs.Moves.{enters_body, found_from, none_at}
-use Rattle.dt_nest.proofs.Searches.{nil_of, loop_whole, loop_one, loop_lanes, loop_no_lanes, pre_first, pre_second}
+use Rattle.dt_nest.proofs.Moves.{enters_body, enters_taken, found_from, none_at}
+use Rattle.dt_nest.proofs.Searches.{nil_of, loop_whole, loop_one, loop_lanes, loop_no_lanes, pre_first, pre_second, pre_none}
 use Rattle.std.proofs.Math.ListN.{length-set}
 use Rattle.std.specs.List.{list_any, range_with_len}
 use Rattle.dt_nest.proofs.odometer.+first.Goals as goal
@@ -75,3 +75,17 @@ pub first_from-loop-i-preserved : goal.first_from-loop-i-preserved
 first_from-loop-i-preserved g t c =
     let h = none_at (g.T.Testing.tests c.args.tests.now) c.args.walk.now c.args.var (tree_of c.args.body.now) (pairs_in c.args.naming.now) c.args.path.now c.args.from c.loop-i.i c.args.slots.now c.loop-i.slots c.enter.new.slots c.loop-i.invariant.0 c.loop-i.invariant.1 c.loop-i.auto.i c.requires.zero.0 c.in_default.ensures.enters in
     (h.0, h.1, c.in_default.ensures.values ∙ c.loop-i.invariant.2)
+
+pub enter-returns-then-takes-clause-enters : goal.enter-returns-then-takes-clause-enters
+enter-returns-then-takes-clause-enters g t c =
+    enters_taken (g.T.Testing.tests c.args.tests.now) c.args.walk.now c.args.var (tree_of c.args.body.now) (pairs_in c.args.naming.now) c.args.path.now c.args.slots.now c.first.new.slots c.first.result (sym c.takes.ensures.takes ∙ c.if-takes.true) c.first.ensures.finds
+
+pub first-overflow_add-result : goal.first-overflow_add-result
+first-overflow_add-result g t c =
+    let whole : leaf_count (tree_of c.in-Pre.producer.value) + leaf_count (tree_of c.in-Pre.consumer.value) < 2 ^ 32 = subst (λ (x : Tree). leaf_count x < 2 ^ 32) (ap tree_of c.in-Pre.is) c.requires.few in
+    let some = (c.in-Some-first-2.ensures.finds.goes.0 []).exists in
+    omega (arith, whole, some, c.leaves.ensures, ap (λ b. leaf_count (tree_of b)) c.deref-in-Some-first-2.ensures, ap (λ b. leaf_count (tree_of b)) c.deref-in-Pre-2.ensures)
+
+pub first-returns-in-None-first-clause-finds : goal.first-returns-in-None-first-clause-finds
+first-returns-in-None-first-clause-finds g t c =
+    pre_none _ _ c.in-Pre.work c.in-Pre.pairs c.as_slice.result.now (tree_of c.in-Pre.producer.value) (tree_of c.in-Pre.consumer.value) (tree_of c.deref-in-Pre.result.now) (tree_of c.deref-in-Pre-2.result.now) _ _ _ _ (ap tree_of c.in-Pre.is) c.as_slice.ensures (ap tree_of c.deref-in-Pre.ensures) (ap tree_of c.deref-in-Pre-2.ensures) c.requires.room c.requires.zero c.first.new.slots c.in_default.ensures.finds c.in-None-first.ensures.finds

@@ -1,4 +1,4 @@
-use Rattle.std.proofs.Common.{◌≡◌, ◌+◌, ◌-◌, ◌<◌, ◌^◌, ℕ, false, sym, ap, ◌∙◌, subst, refl, arith}
+use Rattle.std.proofs.Common.{◌≡◌, ◌+◌, ◌-◌, ◌<◌, ◌^◌, ℕ, [], false, sym, ap, ◌∙◌, subst, refl, arith}
 use Rattle.std.specs.Prelude.{slice_set}
 use Rattle.std.proofs.lemmas.Grind.{common_steps}
 use Rattle.dt_nest.specs.Tree.{Tree, tree_of, leaf_count, is_kernel_leaf}
@@ -90,3 +90,15 @@ returns-in-None-next_visit-clause-steps g t c =
 pub returns-in-Some-next_visit-2-clause-steps : goal.returns-in-Some-next_visit-2-clause-steps
 returns-in-Some-next_visit-2-clause-steps g t c =
     pre_second_next _ _ c.in-Pre.work c.in-Pre.pairs c.in-Pre.pairs (tree_of c.in-Pre.producer.value) (tree_of c.in-Pre.consumer.value) (tree_of c.in-Pre.producer.value) (tree_of c.deref-else-leaf-count.result.now) _ _ _ _ (ap tree_of c.in-Pre.is) refl refl (ap tree_of c.deref-else-leaf-count.ensures) c.requires.room c.requires.stands _ (c.args.leaf - c.leaves-count.result) c.in-Some-next_visit-2.stand _ (omega (arith, c.if-leaf-count.false, c.leaves-count.ensures, ap (λ b. leaf_count (tree_of b)) c.deref-in-Pre.ensures)) (ap (λ (k : ℕ). k + c.in-Some-next_visit-2.stand.leaf) (sym (c.leaves-count.ensures ∙ ap (λ b. leaf_count (tree_of b)) c.deref-in-Pre.ensures))) refl c.in-Some-next_visit-2.ensures.steps
+
+pub overflow_add-result-in-Some-first : goal.overflow_add-result-in-Some-first
+overflow_add-result-in-Some-first g t c =
+    let whole : leaf_count (tree_of c.in-Pre.producer.value) + leaf_count (tree_of c.in-Pre.consumer.value) < 2 ^ 32 = subst (λ (x : Tree). leaf_count x < 2 ^ 32) (ap tree_of c.in-Pre.is) c.requires.few in
+    let some = (c.in-Some-first.ensures.finds.goes.0 []).exists in
+    omega (arith, whole, some, c.leaves-count.ensures, ap (λ b. leaf_count (tree_of b)) c.deref-in-Pre.ensures, ap (λ b. leaf_count (tree_of b)) c.deref-then-leaf-count-2.ensures)
+
+pub overflow_add-result-in-Some-next_visit-2 : goal.overflow_add-result-in-Some-next_visit-2
+overflow_add-result-in-Some-next_visit-2 g t c =
+    let whole : leaf_count (tree_of c.in-Pre.producer.value) + leaf_count (tree_of c.in-Pre.consumer.value) < 2 ^ 32 = subst (λ (x : Tree). leaf_count x < 2 ^ 32) (ap tree_of c.in-Pre.is) c.requires.few in
+    let some = (c.in-Some-next_visit-2.ensures.steps.goes.0 []).exists in
+    omega (arith, whole, some, c.leaves-count.ensures, ap (λ b. leaf_count (tree_of b)) c.deref-in-Pre.ensures, ap (λ b. leaf_count (tree_of b)) c.deref-else-leaf-count.ensures)

@@ -1,15 +1,14 @@
 use Rattle.std.proofs.Common.{◌≡◌, ◌<◌, ◌-◌, ℕ, suc, List, [], ◌∷◌, length, drop, refl, sym, ap, ◌∙◌, subst, arith, drop-cons}
 use Rattle.std.proofs.lemmas.List.{drop_all}
 use Rattle.std.proofs.Math.ListN.{length-set}
-use Rattle.std.specs.Prelude.{is_some}
 use Rattle.dt_nest.specs.declared.derivations.Derived.{Derived}
 use Rattle.dt_nest.specs.Schedule.{seen}
 use Rattle.dt_nest.specs.World.{world_of}
 use Rattle.dt_nest.specs.Lawful.{sources, IsBounded}
 use Rattle.std.specs.List.{AllByRecursion}
 use Rattle.dt_nest.specs.Tables.{IsTable}
-use Rattle.dt_nest.specs.Each.{all_get}
-use Rattle.dt_nest.proofs.TableFacts.{set_full, table_none, table_more}
+use Rattle.dt_nest.proofs.Each.{all_get}
+use Rattle.dt_nest.proofs.TableFacts.{table_none, table_more}
 use Rattle.dt_nest.proofs.tables.fill_derived.Goals as goal
 
 pub loop-k-init : goal.loop-k-init
@@ -20,7 +19,6 @@ loop-k-init g c =
       within = omega arith;
       done = subst (λ (l : List Derived). IsTable (world_of (g.L.Locator.tensors c.args.loc.now) (seen c.args.parts.now)) l (g.N.Renaming.names c.args.names.now) c.args.slots.now c.args.values.now) (sym none)
           (table_none (world_of (g.L.Locator.tensors c.args.loc.now) (seen c.args.parts.now)) (g.N.Renaming.names c.args.names.now) c.args.slots.now c.args.values.now c.requires.values);
-      full = λ e u. ap is_some (c.requires.values u);
     }
 
 pub loop-k-preserved : goal.loop-k-preserved
@@ -39,5 +37,4 @@ loop-k-preserved g c =
       within = omega (arith, l);
       done = table_more (world_of (g.L.Locator.tensors c.args.loc.now) (seen c.args.parts.now)) (g.N.Renaming.names c.args.names.now) c.args.slots.now c.loop-k.values c.index-derived-k.result (drop c.loop-k.k c.args.derived.now) (drop (c.loop-k.k - 1) c.args.derived.now) c.derived_from-value.result
           within c.loop-k.invariant.done rest c.derived_from-value.ensures;
-      full = λ e. set_full c.loop-k.values c.index-derived-k.result.var c.derived_from-value.result c.loop-k.full c.is_some.result within (sym c.both-full.ensures ∙ e) c.is_some.ensures c.loop-k.invariant.full;
     }

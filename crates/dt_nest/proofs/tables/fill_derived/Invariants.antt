@@ -1,8 +1,7 @@
-use Rattle.std.proofs.Common.{◌≡◌, ◌≤◌, ℕ, true, length, drop}
-use Rattle.std.specs.Prelude.{is_some}
+use Rattle.std.proofs.Common.{◌≡◌, ◌≤◌, length, drop}
 use Rattle.dt_nest.specs.Schedule.{seen}
 use Rattle.dt_nest.specs.World.{world_of}
-use Rattle.dt_nest.specs.Tables.{IsTable, tabled}
+use Rattle.dt_nest.specs.Tables.{IsTable}
 use Rattle.dt_nest.proofs.tables.fill_derived.Given as goal
 
 abbrev pub invariant-loop-k : goal.invariant-loop-k
@@ -10,7 +9,6 @@ invariant-loop-k g l = record {
   same : length l.values ≡ length l.initial.values;
   within : l.k ≤ length l.derived;
   done : IsTable (world_of (g.L.Locator.tensors l.loc) (seen l.parts)) (drop l.k l.derived) (g.N.Renaming.names l.names) l.slots l.values;
-  full : l.full ≡ true → (u : ℕ) → is_some (tabled l.values u) ≡ true;
 }
 
 abbrev pub decreases-loop-k : goal.decreases-loop-k

@@ -1,8 +1,8 @@
-use Rattle.std.proofs.Common.{◌≡◌, List, ℕ, length, take, true, subst, ap, sym, ◌∙◌}
+use Rattle.std.proofs.Common.{◌≡◌, List, ℕ, length, take, subst, ap, sym, ◌∙◌}
 use Rattle.std.specs.Result.{IfOk}
 use Rattle.dt_model.specs.Positions.{StoredTensor, tensor_at}
 use Rattle.dt_runs.specs.Boxes.{AreCorners, box_numbers}
-use Rattle.dt_place.specs.Homes.{all_allow, home_of, sides_of}
+use Rattle.dt_place.specs.Homes.{home_of, sides_of}
 use Rattle.dt_place.specs.Machines.{dims_of, node_coords}
 use Rattle.dt_place.specs.declared.placements.Placement.TheVariants.{ByNames}
 use Rattle.dt_place.specs.declared.sides.Side.{Side}

@@ -1,9 +1,9 @@
-use Rattle.std.proofs.Common.{◌≡◌, ℕ, List, Bool, ◌<◌, ◌≤◌, subst, sym, ◌∙◌, arith}
+use Rattle.std.proofs.Common.{ℕ, List, Bool, ◌<◌, subst, sym, ◌∙◌, arith}
 use Rattle.std.specs.List.{All}
 use Rattle.std.specs.List.Sorted.{IsStrictlyIncreasing}
 use Rattle.dt_model.specs.Positions.{coords_at, tensor_at}
 use Rattle.dt_place.specs.Homes.{lies_in}
-use Rattle.dt_place.proofs.PositionSets.{filter_below-ascends, filter_below-small}
+use Rattle.dt_runs.proofs.BelowSets.{filter_below-ascends, filter_below-small}
 use Rattle.dt_place.proofs.homes.inside.Goals as goal
 
 pub from_sorted-requires-clause-ascending : goal.from_sorted-requires-clause-ascending

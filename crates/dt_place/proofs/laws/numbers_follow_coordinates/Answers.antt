@@ -1,6 +1,6 @@
 use Rattle.dt_base.proofs.Rows.{row_major-below}
 use Rattle.dt_place.specs.Machines.{dims_of}
-use Rattle.dt_place.proofs.Assignments.{assignment-row_major, row_major-assignment}
+use Rattle.dt_base.proofs.Assignments.{assignment-row_major, row_major-assignment}
 use Rattle.dt_place.proofs.laws.numbers_follow_coordinates.Goals as goal
 
 pub returns : goal.returns

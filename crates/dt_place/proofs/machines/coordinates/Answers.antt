@@ -1,7 +1,7 @@
-use Rattle.std.proofs.Common.{◌+◌, ◌-◌, ◌<◌, ◌/◌, ◌%◌, ◌≡◌, ◌≤◌, ℕ, List, [], ◌++◌, length, get_or, take, drop, replicate, ap, sym, ◌∙◌, subst, arith, length-set}
+use Rattle.std.proofs.Common.{◌+◌, ◌-◌, ◌<◌, ◌/◌, ◌%◌, ◌≡◌, ℕ, [], ◌++◌, length, get_or, take, drop, replicate, ap, sym, ◌∙◌, subst, arith, length-set}
 use Rattle.std.proofs.Math.ListN.{set}
 use Rattle.dt_base.specs.Ranges.{assignments}
-use Rattle.dt_place.proofs.Coordinates.{Sizes, sizes, coordinate_more, coordinates_all, zeros_more}
+use Rattle.dt_base.proofs.Coordinates.{Sizes, sizes, coordinate_more, coordinates_all, zeros_more}
 use Rattle.dt_place.proofs.machines.coordinates.Goals as goal
 
 pub nonzero_div-size : goal.nonzero_div-size

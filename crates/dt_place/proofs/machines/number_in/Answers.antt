@@ -1,4 +1,4 @@
-use Rattle.std.proofs.Common.{◌≡◌, length, get_or, arith, sym, ◌∙◌}
+use Rattle.std.proofs.Common.{get_or, arith, sym, ◌∙◌}
 use Rattle.dt_base.proofs.Rows.{more_fits, in_range_step, out_of_range, all_in_range, row_major-count}
 use Rattle.dt_place.proofs.machines.number_in.Goals as goal
 

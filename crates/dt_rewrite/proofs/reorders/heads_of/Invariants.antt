@@ -1,7 +1,6 @@
-use Rattle.std.proofs.Common.{◌≡◌, map, take, slice_index}
+use Rattle.std.proofs.Common.{◌≡◌, take}
 use Rattle.dt_nest.specs.Schedule.{seen}
-use Rattle.dt_nest.specs.declared.cuts.Head.{Head}
-use Rattle.dt_rewrite.specs.Reorders.{heads_of}
+use Rattle.dt_cuts.specs.Cutting.{heads_of}
 use Rattle.dt_rewrite.proofs.reorders.heads_of.Given as goal
 
 abbrev pub invariant-loop-v : goal.invariant-loop-v

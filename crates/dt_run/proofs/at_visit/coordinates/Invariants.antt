@@ -1,7 +1,7 @@
 use Rattle.std.proofs.Common.{◌≡◌, length, take, map, IsSome}
 use Rattle.std.specs.Prelude.{slice_index}
 use Rattle.dt_base.specs.Rows.{row_major}
-use Rattle.dt_run.specs.AtVisit.{env_at}
+use Rattle.dt_nest.specs.Point.{env_at}
 use Rattle.dt_run.proofs.at_visit.coordinates.Given as goal
 
 abbrev pub invariant-loop-i : goal.invariant-loop-i

@@ -2,7 +2,7 @@ use Rattle.std.proofs.Common.{Some}
 use Rattle.dt_nest.specs.Meaning.{terms_of}
 use Rattle.dt_nest.specs.Run.{is_among}
 use Rattle.dt_nest.specs.World.{entries_of}
-use Rattle.dt_run.specs.AtVisit.{env_at, valid_of}
+use Rattle.dt_nest.specs.Point.{env_at, valid_of}
 use Rattle.dt_run.proofs.VisitSums.{lanes_more}
 use Rattle.dt_run.proofs.at_visit.lanes_number.Goals as goal
 

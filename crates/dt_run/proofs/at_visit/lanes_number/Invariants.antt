@@ -3,7 +3,7 @@ use Rattle.std.specs.List.{range_with_len}
 use Rattle.dt_nest.specs.Meaning.{terms_of}
 use Rattle.dt_nest.specs.Run.{is_among}
 use Rattle.dt_nest.specs.World.{entries_of}
-use Rattle.dt_run.specs.AtVisit.{env_at, valid_of}
+use Rattle.dt_nest.specs.Point.{env_at, valid_of}
 use Rattle.dt_run.proofs.at_visit.lanes_number.Given as goal
 
 abbrev pub invariant-loop-x : goal.invariant-loop-x

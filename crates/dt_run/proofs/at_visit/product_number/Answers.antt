@@ -1,7 +1,7 @@
 use Rattle.dt_base.proofs.Sums.{product_more}
 use Rattle.dt_nest.specs.Meaning.{factor_of}
 use Rattle.dt_nest.specs.World.{entries_of}
-use Rattle.dt_run.specs.AtVisit.{env_at}
+use Rattle.dt_nest.specs.Point.{env_at}
 use Rattle.dt_run.proofs.at_visit.product_number.Goals as goal
 
 pub loop-factor-preserved : goal.loop-factor-preserved

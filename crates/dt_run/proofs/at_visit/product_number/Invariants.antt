@@ -2,7 +2,7 @@ use Rattle.std.proofs.Common.{◌≡◌, ◌^◌, ◌%◌, map, take}
 use Rattle.dt_base.specs.Rows.{product}
 use Rattle.dt_nest.specs.Meaning.{factor_of}
 use Rattle.dt_nest.specs.World.{entries_of}
-use Rattle.dt_run.specs.AtVisit.{env_at}
+use Rattle.dt_nest.specs.Point.{env_at}
 use Rattle.dt_run.proofs.at_visit.product_number.Given as goal
 
 abbrev pub invariant-loop-factor : goal.invariant-loop-factor

@@ -1,6 +1,6 @@
 use Rattle.dt_nest.specs.Meaning.{term_of}
 use Rattle.dt_nest.specs.World.{entries_of}
-use Rattle.dt_run.specs.AtVisit.{env_at}
+use Rattle.dt_nest.specs.Point.{env_at}
 use Rattle.dt_run.proofs.VisitFacts.{terms_more}
 use Rattle.dt_run.proofs.at_visit.terms_number.Goals as goal
 

@@ -1,7 +1,7 @@
 use Rattle.std.proofs.Common.{◌≡◌, ◌^◌, ◌%◌, take}
 use Rattle.dt_nest.specs.Meaning.{terms_of}
 use Rattle.dt_nest.specs.World.{entries_of}
-use Rattle.dt_run.specs.AtVisit.{env_at}
+use Rattle.dt_nest.specs.Point.{env_at}
 use Rattle.dt_run.proofs.at_visit.terms_number.Given as goal
 
 abbrev pub invariant-loop-term : goal.invariant-loop-term

@@ -3,8 +3,8 @@ use Rattle.dt_model.specs.Stmts.{shapes_of}
 use Rattle.dt_nest.specs.Visits.{Lanes}
 use Rattle.dt_nest.specs.Run.{AreAscending}
 use Rattle.dt_nest.specs.World.{entries_of}
-use Rattle.dt_run.specs.AtVisit.{visit_of}
-use Rattle.dt_run.proofs.VisitFacts.{on_visit}
+use Rattle.dt_nest.specs.Point.{visit_of}
+use Rattle.dt_nest.proofs.PointFacts.{on_visit}
 use Rattle.dt_run.proofs.VisitSums.{lane_free, terms_at, visit_once, visit_lanes}
 use Rattle.dt_run.proofs.at_visit.visit_number.Goals as goal
 
@@ -15,10 +15,10 @@ no_lanes (Some l) e = absurd (cc)
 pub terms_number-requires : goal.terms_number-requires
 terms_number-requires g c =
     let e : (visit_of c.args.visits.now).lanes ≡ None = no_lanes (visit_of c.args.visits.now).lanes (on_visit (λ visit. None ≡ option_map (λ (l : Lanes). l.extent) visit.lanes) c.args.visits.now.last c.in-None.ensures.extent) in
-    terms_at c.args.visits.now None (shapes_of c.args.tensors.now) (lane_free c.args.visits.now e) c.args.terms.now c.requires.reads
+    terms_at c.args.visits.now None (shapes_of c.args.tensors.now) tt (lane_free c.args.visits.now e) c.args.terms.now c.requires.reads
 
 pub lanes_number-requires-clause-terms : goal.lanes_number-requires-clause-terms
-lanes_number-requires-clause-terms g c = λ x o. terms_at c.args.visits.now (Some x) (shapes_of c.args.tensors.now) (λ u h. (o, h)) c.args.terms.now c.requires.reads
+lanes_number-requires-clause-terms g c = λ x o. terms_at c.args.visits.now (Some x) (shapes_of c.args.tensors.now) o (λ u h. h) c.args.terms.now c.requires.reads
 
 pub returns-in-None : goal.returns-in-None
 returns-in-None g c =

@@ -1,5 +1,6 @@
 use Rattle.std.proofs.Common.{◌≡◌, ◌+◌, min, take}
-use Rattle.dt_run.specs.Limits.{visit_count, visit_limit}
+use Rattle.dt_plan.specs.Limits.{visit_limit}
+use Rattle.dt_run.specs.Limits.{visit_count}
 use Rattle.dt_run.proofs.limits.has_too_many_visits.Given as goal
 
 abbrev pub invariant-loop-part : goal.invariant-loop-part

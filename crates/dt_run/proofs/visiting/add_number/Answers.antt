@@ -3,7 +3,7 @@ use Rattle.std.specs.Prelude.{None, slice_index}
 use Rattle.std.proofs.lemmas.List.{set-set, length-map}
 use Rattle.std.proofs.lemmas.Option.{slice_get_within}
 use Rattle.dt_model.specs.WholeTensor.{WholeTensor}
-use Rattle.dt_run.specs.AtVisit.{env_at}
+use Rattle.dt_nest.specs.Point.{env_at}
 use Rattle.dt_run.proofs.WholeSets.{grows_at, shapes_kept}
 use Rattle.dt_run.proofs.visiting.add_number.Goals as goal
 

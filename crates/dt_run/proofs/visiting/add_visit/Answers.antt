@@ -4,8 +4,8 @@ use Rattle.dt_nest.specs.Effects.{visit_sum}
 use Rattle.dt_nest.specs.Tree.{tree_of}
 use Rattle.dt_nest.specs.Branch.{leaf_tree}
 use Rattle.dt_nest.specs.World.{entries_of, world_of}
-use Rattle.dt_run.specs.AtVisit.{visit_of}
-use Rattle.dt_run.proofs.VisitFacts.{on_visit}
+use Rattle.dt_nest.specs.Point.{visit_of}
+use Rattle.dt_nest.proofs.PointFacts.{on_visit}
 use Rattle.dt_run.proofs.VisitSteps.{visit_effect}
 use Rattle.dt_run.proofs.visiting.add_visit.Goals as goal
 

@@ -2,7 +2,7 @@ use Rattle.std.proofs.Common.{◌≡◌, ℕ, ◌<◌, ◌^◌, [], length, get_
 use Rattle.std.specs.Prelude.{slice_index}
 use Rattle.dt_model.specs.WholeTensor.{WholeTensor, IsWhole}
 use Rattle.dt_nest.specs.Schedule.{Schedule}
-use Rattle.dt_nest.specs.FitsStored.{fits_stored}
+use Rattle.dt_nest.proofs.Inside.{fits_stored}
 use Rattle.dt_nest.specs.Outputs.{output_of}
 use Rattle.dt_nest.specs.Run.{run_over}
 use Rattle.dt_nest.specs.World.{entries_of}

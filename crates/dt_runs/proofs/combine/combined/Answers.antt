@@ -22,8 +22,8 @@ loop-left_rest-preserved c =
     ] in
     let on = at_lt-end left right at swept.left_ahead swept.right_ahead (omega arith) (omega arith) some in
     let keeps_is : keeps_of c.args.combination (is_begun left at) (is_begun right at) ≡ c.keeps.result =
-    ap (λ b. keeps_of c.args.combination b (is_begun right at)) (sym c.stretch-in_left.ensures.inside)
-    ∙ ap (λ b. keeps_of c.args.combination c.stretch-in_left.result.0 b) (sym c.stretch-in_right.ensures.inside) ∙ sym c.keeps.ensures in
+    ap (λ b. keeps_of c.args.combination b (is_begun right at)) (sym c.until_change-in_left.ensures.inside)
+    ∙ ap (λ b. keeps_of c.args.combination c.until_change-in_left.result.0 b) (sym c.until_change-in_right.ensures.inside) ∙ sym c.keeps.ensures in
     let after : IsSwept c.args.combination c.args.left.now c.args.right.now (past_of left end) (past_of right end) end c.if-keeps.kept =
     elim c.if-keeps.branch [
       | then-keeps+in_ok-push_range w ↦

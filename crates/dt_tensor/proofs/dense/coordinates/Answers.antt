@@ -2,7 +2,7 @@ use Rattle.std.proofs.Common.{◌+◌, ◌<◌, ◌/◌, ◌%◌, ◌≡◌, ◌
 use Rattle.std.proofs.Math.ListN.{set}
 use Rattle.dt_base.specs.Ranges.{assignments}
 use Rattle.dt_model.proofs.ShapeFacts.{shape_facts}
-use Rattle.dt_tensor.proofs.Coordinates.{Sizes, sizes, coordinate_more}
+use Rattle.dt_base.proofs.Coordinates.{Sizes, sizes, coordinate_more}
 use Rattle.dt_tensor.proofs.dense.coordinates.Goals as goal
 
 pub loop-i-preserved : goal.loop-i-preserved

@@ -1,6 +1,6 @@
 use Rattle.std.proofs.Common.{refl, sym, subst, ◌∙◌}
 use Rattle.dt_job.specs.contracts.draft.Draft.{the_view}
-use Rattle.dt_job.specs.Drafts.{DraftView, IsScheduled}
+use Rattle.dt_job.specs.Drafts.{DraftView, IsScheduled, grid_of}
 use Rattle.dt_job.proofs.ContentFacts.{OpenFacts, open_facts, rested_draft}
 use Rattle.dt_job.proofs.draft.Draft.take_open.Goals as goal
 
@@ -12,4 +12,4 @@ invariant_of-self c = (rested_draft (the_view c.self.inside) c.self.inside.close
 
 pub returns-in-Open-clause-lawful : goal.returns-in-Open-clause-lawful
 returns-in-Open-clause-lawful c =
-    let P : DraftView → Type 0 = λ d. IsScheduled d.tensors c.in-Open.scheduled in subst P c.self.view_is (facts c).lawful
+    let P : DraftView → Type 0 = λ d. IsScheduled (grid_of d.machine) d.tensors c.in-Open.scheduled in subst P c.self.view_is (facts c).lawful

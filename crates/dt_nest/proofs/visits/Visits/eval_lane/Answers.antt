@@ -12,26 +12,19 @@ use Rattle.dt_nest.proofs.OwnSlots.{few_in}
 use Rattle.dt_nest.proofs.RunFacts.{lane_value_answer, lane_value_none, lane_value_below}
 use Rattle.dt_nest.proofs.visits.Visits.eval_lane.Goals as goal
 
-pub substituted_of-requires : goal.substituted_of-requires
-substituted_of-requires g c = few_in (seen c.parts.result.now) c.self.inside.sched.now c.parts.ensures.parts c.parts.ensures.lawful
-
 pub value_of-requires-clause-few : goal.value_of-requires-clause-few
 value_of-requires-clause-few g c = few_in (seen c.parts.result.now) c.self.inside.sched.now c.parts.ensures.parts c.parts.ensures.lawful
 
 pub returns-in-None-clause-value : goal.returns-in-None-clause-value
 returns-in-None-clause-value g c =
     let n : substituted_at c.self.inside.sched.now.nest (standing c.self.inside.progress) ≡ None =
-    sym (c.in-None.ensures
-    ∙ ap (λ (r : Schedule). substituted_at r.nest c.leaf-leaf.result) c.parts.ensures.parts
-    ∙ ap (substituted_at c.self.inside.sched.now.nest) c.leaf-leaf.ensures) in
+    sym c.self.invariant.2.substituted ∙ c.in-None.is in
     absurd (lane_value_none (g.L.Locator.tensors c.self.inside.loc.now) c.self.inside.sched.now c.self.inside.path.items c.self.inside.slots.items c.self.inside.progress c.self.invariant.0 c.args.x (subst (λ (r : Run). OnLanes r (λ lanes. is_among c.args.x lanes.valid ≡ true)) (sym c.self.view_is) c.requires.valid) n)
 
 pub returns-in-Some-clause-value : goal.returns-in-Some-clause-value
 returns-in-Some-clause-value g c =
     let n : substituted_at c.self.inside.sched.now.nest (standing c.self.inside.progress) ≡ Some c.in-Some.substituted =
-    sym (c.in-Some.ensures
-    ∙ ap (λ (r : Schedule). substituted_at r.nest c.leaf-leaf.result) c.parts.ensures.parts
-    ∙ ap (substituted_at c.self.inside.sched.now.nest) c.leaf-leaf.ensures) in
+    sym c.self.invariant.2.substituted ∙ c.in-Some.is in
     let e : c.value_of.result ≡ inside_in (world_of (g.L.Locator.tensors c.self.inside.loc.now) c.self.inside.sched.now) c.self.inside.sched.now.derived (pairs_at c.self.inside.sched.now.nest (standing c.self.inside.progress)) (slice_set c.self.inside.slots.items c.in-Some.substituted.var c.args.x) c.args.var =
     c.value_of.ensures
     ∙ ap (λ (r : Schedule). inside_in (world_of (g.L.Locator.tensors c.self.inside.loc.now) r) r.derived (pairs_at r.nest c.leaf-leaf.result) c.with_lane-slots.result c.args.var) c.parts.ensures.parts
@@ -46,9 +39,7 @@ returns-in-Some-clause-value g c =
 pub returns-in-None-clause-below : goal.returns-in-None-clause-below
 returns-in-None-clause-below g c =
     let n : substituted_at c.self.inside.sched.now.nest (standing c.self.inside.progress) ≡ None =
-    sym (c.in-None.ensures
-    ∙ ap (λ (r : Schedule). substituted_at r.nest c.leaf-leaf.result) c.parts.ensures.parts
-    ∙ ap (substituted_at c.self.inside.sched.now.nest) c.leaf-leaf.ensures) in
+    sym c.self.invariant.2.substituted ∙ c.in-None.is in
     absurd (lane_value_none (g.L.Locator.tensors c.self.inside.loc.now) c.self.inside.sched.now c.self.inside.path.items c.self.inside.slots.items c.self.inside.progress c.self.invariant.0 c.args.x (subst (λ (r : Run). OnLanes r (λ lanes. is_among c.args.x lanes.valid ≡ true)) (sym c.self.view_is) c.requires.valid) n)
 
 pub returns-in-Some-clause-below : goal.returns-in-Some-clause-below

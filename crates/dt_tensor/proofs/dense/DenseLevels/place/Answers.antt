@@ -1,7 +1,7 @@
 use Rattle.std.proofs.Common.{◌≡◌, sym, ◌∙◌, subst}
 use Rattle.dt_model.specs.Positions.{StoredTensor, place_in}
 use Rattle.dt_model.specs.Shape.{dims}
-use Rattle.dt_tensor.proofs.Assignments.{position-assignments}
+use Rattle.dt_base.proofs.Assignments.{position-assignments}
 use Rattle.dt_tensor.proofs.dense.DenseLevels.place.Goals as goal
 
 pub returns : goal.returns

@@ -1,5 +1,5 @@
 use Rattle.std.proofs.Common.{subst}
-use Rattle.dt_model.specs.Positions.{IsStored, StoredTensor}
+use Rattle.dt_model.specs.Positions.{IsStored}
 use Rattle.dt_tensor.proofs.DenseTensors.{IsStored-dense}
 use Rattle.dt_tensor.proofs.dense.DenseLevels.shape.Goals as goal
 

@@ -1,0 +1,9 @@
+pub mod Alike
+pub mod Chains
+pub mod Commuting
+pub mod Counting
+pub mod EventLists
+pub mod InTurn
+pub mod MovingBack
+pub mod Runs
+pub mod WorkedFacts

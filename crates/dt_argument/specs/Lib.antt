@@ -1,0 +1,7 @@
+pub mod Events
+pub mod Facts
+pub mod Frames
+pub mod Laws
+pub mod Listings
+pub mod Orders
+pub mod Worked

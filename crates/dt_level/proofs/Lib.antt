@@ -1,0 +1,3 @@
+pub mod SegmentLemmas
+pub mod SearchLemmas
+pub mod DenseLemmas

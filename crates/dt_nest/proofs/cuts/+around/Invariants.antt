@@ -1,5 +1,0 @@
-use Rattle.std.proofs.Common.{length}
-use Rattle.dt_nest.proofs.cuts.+around.Given as goal
-
-abbrev pub decreases-around : goal.decreases-around
-decreases-around l = length l.heads.now

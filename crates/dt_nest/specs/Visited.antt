@@ -1,0 +1,52 @@
+-- What is kept beside a run over visits: its leaf, the loops that turn, and the values of variables.
+use Rattle.std.specs.Prelude.{◌≡◌, ℕ, ◌<◌, Bool, true, false, List, [], Option, Some, length}
+use Rattle.std.specs.List.{AllByRecursion}
+use Rattle.dt_model.specs.Positions.{StoredTensor}
+use Rattle.dt_nest.specs.declared.progress.Progress.{Progress}
+use Rattle.dt_nest.specs.declared.progress.Progress.TheVariants.{On}
+use Rattle.dt_nest.specs.declared.stepping.Outcome.{Outcome}
+use Rattle.dt_nest.specs.declared.stepping.Outcome.TheVariants.{Comes, Passes, Ends}
+use Rattle.dt_nest.specs.declared.visited.VisitedLeaf.{VisitedLeaf}
+use Rattle.dt_nest.specs.declared.wheels.Wheels.{Wheels}
+use Rattle.dt_nest.specs.Tree.{Tree, tree_of}
+use Rattle.dt_nest.specs.Schedule.{Schedule}
+use Rattle.dt_nest.specs.World.{world_of}
+use Rattle.dt_nest.specs.Lawful.{is_replaced}
+use Rattle.dt_nest.specs.Visits.{Tests}
+use Rattle.dt_nest.specs.Odometer.{pairs_at}
+use Rattle.dt_nest.specs.Branch.{leaf_at, substituted_at}
+use Rattle.dt_nest.specs.Tables.{IsLeafTable}
+use Rattle.dt_nest.specs.Wheels.{AreDependents, AreWheels, turned}
+use Rattle.dt_nest.specs.Run.{CanGoOn, Moves, Stands, left_of, run_tests}
+
+-- The leaf of a tree with this number, and the substituted loop around it.
+pub record IsVisited (tree : Tree) (leaf : ℕ) (v : VisitedLeaf) : Type 0 where
+  pub nest : tree_of v.nest.now ≡ leaf_at tree leaf
+  pub substituted : v.substituted ≡ substituted_at tree leaf
+
+-- What is kept beside a run: the wheels, and at each visit of a leaf the values of all variables.
+pub record IsKept (stored : List StoredTensor) (s : Schedule) (path slots : List ℕ) (p : Progress) (w : Wheels) (values : List (Option ℕ)) : Type 0 where
+  pub wheels : AreWheels s path w
+  pub room : length values ≡ length s.names
+  pub table : (leaf : ℕ) → p ≡ On leaf → IsLeafTable (world_of stored s) s.derived [] (pairs_at s.nest leaf) slots values
+
+-- What the wheels need to turn: each loop has a slot and was not replaced, and has the derivations that follow from it.
+pub record CanTurn (s : Schedule) (w : Wheels) : Type 0 where
+  pub within : AllByRecursion (λ wheel. wheel.var < length s.names) w.items.items
+  pub loops : AllByRecursion (λ wheel. is_replaced s.derived wheel.var ≡ false) w.items.items
+  pub count : length w.derived.items ≡ length w.items.items
+  pub derived : AreDependents s.derived w.items.items w.derived.items
+
+-- what a step of the wheels came to
+abbrev pub StepIs : Tests → Wheels → List ℕ → List ℕ → Outcome → Type 0
+StepIs t w old new Comes = (turned w.items.items old ≡ Some new) × (t.holds w.guards.items [] new ≡ true)
+StepIs t w old new Passes = (turned w.items.items old ≡ Some new) × (t.holds w.guards.items [] new ≡ false)
+StepIs t w old new Ends = new ≡ old
+
+-- what steps of the wheels came to: the next visit of their leaf, or none, with the same items left
+abbrev pub TurnIs : List StoredTensor → Schedule → List ℕ → Wheels → List ℕ → List ℕ → Bool → Type 0
+TurnIs stored s path w old new true =
+    Moves (run_tests stored s) s.nest path (left_of (run_tests stored s) s.nest path old (On w.leaf)) new (On w.leaf) × Stands s.nest new (On w.leaf)
+TurnIs stored s path w old new false =
+    CanGoOn stored s path new (On w.leaf)
+    × (left_of (run_tests stored s) s.nest path old (On w.leaf) ≡ left_of (run_tests stored s) s.nest path new (On w.leaf))

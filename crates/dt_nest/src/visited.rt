@@ -1,0 +1,109 @@
+//! The leaf of a visit, and the values of all variables there.
+
+ghost use Rattle.std.specs.Prelude.{◌≡◌, ◌<◌, ◌^◌, ℕ, length};
+ghost use Rattle.std.specs.List.{AllByRecursion};
+ghost use Rattle.dt_nest.specs.Schedule.{seen};
+ghost use Rattle.dt_nest.specs.Tree.{tree_of, leaf_count};
+ghost use Rattle.dt_nest.specs.Meaning.{renamed};
+ghost use Rattle.dt_nest.specs.World.{world_of};
+ghost use Rattle.dt_nest.specs.Lawful.{AreNamed, IsNamed};
+ghost use Rattle.dt_nest.specs.Naming.{pairs_in};
+ghost use Rattle.dt_nest.specs.Odometer.{pairs_at};
+ghost use Rattle.dt_nest.specs.Tables.{IsLeafTable, tabled};
+ghost use Rattle.dt_nest.specs.Visited.{IsVisited};
+
+use crate::against::Against;
+use crate::branches::{Substituted, leaf_of, substituted_of};
+use crate::loops::{Nest, Pair};
+use crate::naming::Naming;
+use crate::odometer::leaves;
+use crate::tables::{tabled, tabulate};
+use dt_model::Locator;
+
+/// A leaf, and the substituted loop around it.
+#[derive(Clone, Copy)]
+pub struct VisitedLeaf<'s> {
+    pub nest: &'s Nest,
+    pub substituted: Option<Substituted>,
+}
+
+impl<'s> VisitedLeaf<'s> {
+    /// The leaf with this number.
+    pub fn of(nest: &'s Nest, leaf: u32) -> VisitedLeaf<'s>
+        requires { leaf_count (tree_of nest.now) < 2 ^ 32 }
+        ensures { IsVisited (tree_of nest.now) leaf result }
+    {
+        VisitedLeaf {
+            nest: leaf_of(nest, leaf),
+            substituted: substituted_of(nest, leaf),
+        }
+    }
+
+    /// The leaf with the second number, where this is the one with the first.
+    pub fn next(self, nest: &'s Nest, from: u32, to: u32) -> VisitedLeaf<'s>
+        requires few { leaf_count (tree_of nest.now) < 2 ^ 32 }
+        requires from { IsVisited (tree_of nest.now) from self }
+        ensures { IsVisited (tree_of nest.now) to result }
+    {
+        if from == to {
+            self
+        } else {
+            VisitedLeaf::of(nest, to)
+        }
+    }
+}
+
+/// Gives each renamed variable the value under its new name.
+fn rename(pairs: &[Pair], values: &mut [Option<u32>])
+    requires { AllByRecursion (λ p. p.from < length values.old) pairs.now }
+    ensures values { (u : ℕ) → tabled values.new u ≡ tabled values.old (renamed pairs.now u) }
+    ensures length { length values.new ≡ length values.old }
+{
+    match pairs.split_first() {
+        None => {}
+        Some((pair, rest)) => {
+            rename(rest, values);
+            let value = tabled(values, pair.to);
+            values[pair.from as usize] = value;
+        }
+    }
+}
+
+/// Makes the values of all variables at a leaf, each under the name that it has outside all producers.
+pub fn tabulate_leaf<L: Locator>(
+    nest: &Nest,
+    naming: &Naming,
+    against: &Against<L>,
+    leaf: u32,
+    slots: &[u32],
+    values: &mut [Option<u32>],
+)
+    requires few { leaf_count (tree_of nest.now) < 2 ^ 32 }
+    requires nest { IsNamed (seen against.now.parts.now) (tree_of nest.now) }
+    requires named { AreNamed (seen against.now.parts.now) against.now.parts.now.derived }
+    requires tensors { length (L.tensors against.now.loc.now) ≡ length against.now.parts.now.tensors }
+    requires room { length slots.now ≡ length against.now.parts.now.names }
+    requires values { length values.old ≡ length against.now.parts.now.names }
+    ensures table { IsLeafTable (world_of (L.tensors against.now.loc.now) (seen against.now.parts.now)) against.now.parts.now.derived (pairs_in naming.now) (pairs_at (tree_of nest.now) leaf) slots.now values.new }
+    ensures values { length values.new ≡ length values.old }
+{
+    match nest {
+        Nest::Loop { body, .. } => tabulate_leaf(body, naming, against, leaf, slots, values),
+        Nest::Pre {
+            pairs,
+            producer,
+            consumer,
+            ..
+        } => {
+            let count = leaves(producer);
+            if leaf < count {
+                let inner = Naming::Under(pairs.as_slice(), &*naming);
+                tabulate_leaf(producer, &inner, against, leaf, slots, values);
+                rename(pairs.as_slice(), values);
+            } else {
+                tabulate_leaf(consumer, naming, against, leaf - count, slots, values);
+            }
+        }
+        Nest::Leaf { .. } => tabulate(against.parts, against.loc, naming, slots, values),
+    }
+}

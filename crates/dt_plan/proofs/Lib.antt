@@ -1,0 +1,16 @@
+pub mod Ascending
+pub mod Sorting
+pub mod Stretches
+pub mod Outlines
+pub mod BracketsAscend
+pub mod BracketsMembers
+pub mod Listing
+pub mod Meeting
+pub mod Depths
+pub mod OutlineFacts
+pub mod KeyOrder
+pub mod ListOrder
+pub mod WorkedPlans
+pub mod FourNodes
+pub mod SpecialPlans
+pub mod OperationUnits

@@ -1,0 +1,23 @@
+//! What a job does on its nodes: the operations of each statement, in order.
+//!
+//! In: the parts of a job's statements, the homes of its tensors, and a machine. Out: the operations with the words that
+//! each one moves, the nodes' bounds and the traffic, as definitions. Proved of the operations by `list_has_named`,
+//! `list_is_brackets` and `list_is_ordered`: they are those that the statements name, sorted by their keys they are brackets
+//! along the statements' nests, and they ascend by what the keys are made of.
+#![tactic(auto)]
+
+mod kind;
+mod laws;
+mod ops;
+mod parts;
+mod plan_end;
+mod touches;
+
+pub use kind::Kind;
+pub use laws::{
+    list_ascends, list_has_named, list_is_brackets, list_is_ordered, operations_have_units,
+};
+pub use ops::{Op, Ops};
+pub use parts::{Part, Parts};
+pub use plan_end::PlanEnd;
+pub use touches::{Buffer, Mode, Touch, Touches};

@@ -1,5 +1,0 @@
-use Rattle.std.proofs.Common.{length}
-use Rattle.dt_rewrite.proofs.communicates.+terms_access.Given as goal
-
-abbrev pub decreases-terms_access : goal.decreases-terms_access
-decreases-terms_access l = length l.terms.now

@@ -1,0 +1,9 @@
+use Rattle.std.proofs.Common.{◌≡◌, map}
+use Rattle.std.specs.List.{list_all}
+use Rattle.dt_text.specs.Spans.{token_in}
+use Rattle.dt_text.specs.Numbers.{is_numeral}
+use Rattle.dt_text.proofs.TokenLists.{words_from}
+use Rattle.dt_text.proofs.numbers.are_all_numerals.Given as goal
+
+abbrev pub invariant-loop-token : goal.invariant-loop-token
+invariant-loop-token l = list_all is_numeral (words_from l.text l.tokens l.token-index) ≡ list_all is_numeral (map (token_in l.text) l.tokens)
