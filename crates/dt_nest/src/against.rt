@@ -105,19 +105,25 @@ impl<L: Locator> Testing for Against<'_, L> {
 
     fn holds(
         &self,
-        guards: &[u32],
+        leaf: &Nest,
         naming: &Naming,
         slots: &[u32],
         values: &mut [Option<u32>],
     ) -> bool {
-        if guards.is_empty() {
-            return true;
+        match leaf {
+            Nest::Loop { .. } => true,
+            Nest::Pre { .. } => true,
+            Nest::Leaf { guards, .. } => {
+                if guards.as_slice().is_empty() {
+                    return true;
+                }
+                tabulate(self.parts, self.loc, naming, slots, values);
+                let known = Table {
+                    names: naming,
+                    values,
+                };
+                hold(guards.as_slice(), self.parts.extents.as_slice(), &known)
+            }
         }
-        tabulate(self.parts, self.loc, naming, slots, values);
-        let known = Table {
-            names: naming,
-            values,
-        };
-        hold(guards, self.parts.extents.as_slice(), &known)
     }
 }

@@ -1,13 +1,13 @@
 //! The search for the next visit of a nest. It goes down the tree anew each time, and takes no memory.
 
-ghost use Rattle.std.specs.Prelude.{◌≡◌, ◌≤◌, ◌<◌, ◌+◌, ◌-◌, ◌^◌, ◌&&◌, length, slice_index, drop};
+ghost use Rattle.std.specs.Prelude.{◌≡◌, ℕ, ◌≤◌, ◌<◌, ◌+◌, ◌-◌, ◌^◌, ◌&&◌, length, slice_index, drop};
 ghost use Rattle.std.specs.List.{list_any, range_with_len};
-ghost use Rattle.dt_nest.specs.Tree.{Loop, tree_of, leaf_count, is_kernel_leaf};
+ghost use Rattle.dt_nest.specs.Tree.{Loop, Pre, tree_of, leaf_count, is_kernel_leaf};
 ghost use Rattle.dt_nest.specs.Naming.{pairs_in};
 ghost use Rattle.dt_nest.specs.Visits.{Tests, is_valid, IsPathIn};
 ghost use Rattle.dt_nest.specs.Odometer.{AreZero, HaveSlots, IsAt, end_on, guards_of, Finds, Enters, FindsFrom, Steps};
 
-use crate::loops::{Kernel, Nest, Walk};
+use crate::loops::{Kernel, Nest, Pair, Walk};
 use crate::naming::Naming;
 
 /// A place in a run over the visits: a leaf, by its number from the left, and how many of the workspaces around it were
@@ -18,7 +18,7 @@ pub struct Stand {
     pub past: u32,
 }
 
-/// What a run over visits asks of values: whether a loop takes its value, and whether guards hold.
+/// What a run over visits asks of values: whether a loop takes its value, and whether a leaf is visited.
 pub trait Testing {
     ghost use Rattle.std.specs.Prelude.{ℕ};
     ghost use Rattle.dt_nest.specs.Visits.{Tests};
@@ -47,7 +47,7 @@ pub trait Testing {
 
     fn holds(
         &self,
-        guards: &[u32],
+        leaf: &Nest,
         naming: &Naming,
         slots: &[u32],
         values: &mut [Option<u32>],
@@ -55,7 +55,7 @@ pub trait Testing {
         requires ready { ready self.now }
         requires slots { length slots.now ≡ room self.now }
         requires values { length values.old ≡ room self.now }
-        ensures holds { result ≡ (tests self.now).holds guards.now (pairs_in naming.now) slots.now }
+        ensures holds { result ≡ (tests self.now).holds (guards_of (tree_of leaf.now)) (pairs_in naming.now) slots.now }
         ensures values { length values.new ≡ length values.old };
 }
 
@@ -90,58 +90,71 @@ pub fn has_kernel(nest: &Nest) -> bool
     }
 }
 
+/// The head of a loop: its name, its walk, and what it goes around.
+#[derive(Drop)]
+struct Head<'a> {
+    var: u32,
+    walk: &'a Option<Walk>,
+    body: &'a Nest,
+}
+
+/// The two branches of a precompute node, and the new names of loops in the producer.
+#[derive(Drop)]
+struct Branches<'a> {
+    pairs: &'a [Pair],
+    producer: &'a Nest,
+    consumer: &'a Nest,
+}
+
+/// What a search keeps to: the tests that it asks, the names where it is, and the path.
+#[derive(Drop)]
+pub struct Route<'a, T: Testing> {
+    pub tests: &'a T,
+    pub naming: &'a Naming<'a>,
+    pub path: &'a [u32],
+}
+
 /// Whether a substituted loop over a leaf has the value in its slot as a valid one.
 fn is_lane<T: Testing>(
-    body: &Nest,
-    walk: &Option<Walk>,
-    var: u32,
-    naming: &Naming,
-    tests: &T,
+    head: &Head,
+    route: &Route<T>,
     slots: &[u32],
     values: &mut [Option<u32>],
 ) -> bool
-    requires ready { T.ready tests.now }
-    requires slots { length slots.now ≡ T.room tests.now }
-    requires values { length values.old ≡ T.room tests.now }
-    ensures valid { result ≡ ((T.tests tests.now).takes walk.now var (pairs_in naming.now) slots.now && (T.tests tests.now).holds (guards_of (tree_of body.now)) (pairs_in naming.now) slots.now) }
+    requires ready { T.ready route.now.tests.now }
+    requires slots { length slots.now ≡ T.room route.now.tests.now }
+    requires values { length values.old ≡ T.room route.now.tests.now }
+    ensures valid { result ≡ ((T.tests route.now.tests.now).takes head.now.walk.now head.now.var (pairs_in route.now.naming.now) slots.now && (T.tests route.now.tests.now).holds (guards_of (tree_of head.now.body.now)) (pairs_in route.now.naming.now) slots.now) }
     ensures values { length values.new ≡ length values.old }
 {
-    match body {
-        Nest::Loop { .. } => tests.takes(walk, var, naming, slots, values)
-            && tests.holds(&[], naming, slots, values),
-        Nest::Pre { .. } => tests.takes(walk, var, naming, slots, values)
-            && tests.holds(&[], naming, slots, values),
-        Nest::Leaf { guards, .. } => {
-            tests.takes(walk, var, naming, slots, values)
-                && tests.holds(guards.as_slice(), naming, slots, values)
-        }
-    }
+    route
+        .tests
+        .takes(head.walk, head.var, route.naming, slots, values)
+        && route.tests.holds(head.body, route.naming, slots, values)
 }
 
 /// Whether a substituted loop has a valid value. The slots stay.
 fn has_lane<T: Testing>(
-    body: &Nest,
-    walk: &Option<Walk>,
-    var: u32,
+    head: &Head,
     extent: u32,
-    naming: &Naming,
-    tests: &T,
+    route: &Route<T>,
     slots: &mut [u32],
     values: &mut [Option<u32>],
 ) -> bool
-    requires ready { T.ready tests.now }
-    requires room { var < length slots.old }
-    requires zero { slice_index slots.old var ≡ 0 }
-    requires slots { length slots.old ≡ T.room tests.now }
-    requires values { length values.old ≡ T.room tests.now }
-    ensures found { result ≡ list_any (is_valid (T.tests tests.now) walk.now var (guards_of (tree_of body.now)) (pairs_in naming.now) slots.old) (range_with_len 0 extent) }
+    requires ready { T.ready route.now.tests.now }
+    requires room { head.now.var < length slots.old }
+    requires zero { slice_index slots.old head.now.var ≡ 0 }
+    requires slots { length slots.old ≡ T.room route.now.tests.now }
+    requires values { length values.old ≡ T.room route.now.tests.now }
+    ensures found { result ≡ list_any (is_valid (T.tests route.now.tests.now) head.now.walk.now head.now.var (guards_of (tree_of head.now.body.now)) (pairs_in route.now.naming.now) slots.old) (range_with_len 0 extent) }
     ensures slots { slots.new ≡ slots.old }
     ensures values { length values.new ≡ length values.old }
 {
+    let at = head.var as usize;
     for x in 0..extent {
-        slots[var as usize] = x;
-        let valid = is_lane(body, walk, var, naming, tests, slots, values);
-        slots[var as usize] = 0;
+        slots[at] = x;
+        let valid = is_lane(head, route, slots, values);
+        slots[at] = 0;
         if valid {
             return true;
         }
@@ -153,20 +166,18 @@ fn has_lane<T: Testing>(
 #[cycle(first)]
 pub fn first<T: Testing>(
     nest: &Nest,
-    naming: &Naming,
-    tests: &T,
-    path: &[u32],
+    route: &Route<T>,
     slots: &mut [u32],
     values: &mut [Option<u32>],
 ) -> Option<u32>
-    requires ready { T.ready tests.now }
+    requires ready { T.ready route.now.tests.now }
     requires few { leaf_count (tree_of nest.now) < 2 ^ 32 }
     requires room { HaveSlots (tree_of nest.now) (length slots.old) }
     requires zero { AreZero (tree_of nest.now) slots.old }
-    requires path { IsPathIn (tree_of nest.now) path.now }
-    requires slots { length slots.old ≡ T.room tests.now }
-    requires values { length values.old ≡ T.room tests.now }
-    ensures finds { Finds (T.tests tests.now) (tree_of nest.now) (pairs_in naming.now) path.now slots.old slots.new result }
+    requires path { IsPathIn (tree_of nest.now) route.now.path.now }
+    requires slots { length slots.old ≡ T.room route.now.tests.now }
+    requires values { length values.old ≡ T.room route.now.tests.now }
+    ensures finds { Finds (T.tests route.now.tests.now) (tree_of nest.now) (pairs_in route.now.naming.now) route.now.path.now slots.old slots.new result }
     ensures values { length values.new ≡ length values.old }
 {
     match nest {
@@ -176,29 +187,12 @@ pub fn first<T: Testing>(
             walk,
             body,
         } => {
-            if has_kernel(body) {
-                return if has_lane(body, walk, *var, *extent, naming, tests, slots, values) {
-                    Some(0)
-                } else {
-                    None
-                };
-            }
-            let end = *extent;
-            match path.split_first() {
-                None => first_from(body, walk, *var, 0, end, naming, tests, path, slots, values),
-                Some((x, rest)) => first_from(
-                    body,
-                    walk,
-                    *var,
-                    *x,
-                    *x + 1,
-                    naming,
-                    tests,
-                    rest,
-                    slots,
-                    values,
-                ),
-            }
+            let head = Head {
+                var: *var,
+                walk,
+                body: &**body,
+            };
+            first_in_loop(&head, *extent, route, slots, values)
         }
         Nest::Pre {
             pairs,
@@ -206,16 +200,14 @@ pub fn first<T: Testing>(
             consumer,
             ..
         } => {
-            let inner = Naming::Under(pairs.as_slice(), &*naming);
-            if let Some(leaf) = first(producer, &inner, tests, &[], slots, values) {
-                return Some(leaf);
-            }
-            match first(consumer, naming, tests, &[], slots, values) {
-                None => None,
-                Some(leaf) => Some(leaves(producer) + leaf),
-            }
+            let branches = Branches {
+                pairs: pairs.as_slice(),
+                producer: &**producer,
+                consumer: &**consumer,
+            };
+            first_in_branches(&branches, route, slots, values)
         }
-        Nest::Leaf { guards, .. } => if tests.holds(guards.as_slice(), naming, slots, values) {
+        Nest::Leaf { .. } => if route.tests.holds(nest, route.naming, slots, values) {
             Some(0)
         } else {
             None
@@ -223,30 +215,105 @@ pub fn first<T: Testing>(
     }
 }
 
-/// Goes to the first visit at the value that a loop's slot has, or leaves the slots as they are.
+/// Goes to the first visit of a loop.
 #[cycle(first)]
-fn enter<T: Testing>(
-    body: &Nest,
-    walk: &Option<Walk>,
-    var: u32,
-    naming: &Naming,
-    tests: &T,
-    path: &[u32],
+fn first_in_loop<T: Testing>(
+    head: &Head,
+    extent: u32,
+    route: &Route<T>,
     slots: &mut [u32],
     values: &mut [Option<u32>],
 ) -> Option<u32>
-    requires ready { T.ready tests.now }
-    requires few { leaf_count (tree_of body.now) < 2 ^ 32 }
-    requires room { HaveSlots (tree_of body.now) (length slots.old) }
-    requires zero { AreZero (tree_of body.now) slots.old }
-    requires path { IsPathIn (tree_of body.now) path.now }
-    requires slots { length slots.old ≡ T.room tests.now }
-    requires values { length values.old ≡ T.room tests.now }
-    ensures enters { Enters (T.tests tests.now) walk.now var (tree_of body.now) (pairs_in naming.now) path.now slots.old slots.new result }
+    requires ready { T.ready route.now.tests.now }
+    requires few { leaf_count (tree_of head.now.body.now) < 2 ^ 32 }
+    requires room { HaveSlots (Loop head.now.var extent head.now.walk.now (tree_of head.now.body.now)) (length slots.old) }
+    requires zero { AreZero (Loop head.now.var extent head.now.walk.now (tree_of head.now.body.now)) slots.old }
+    requires path { IsPathIn (Loop head.now.var extent head.now.walk.now (tree_of head.now.body.now)) route.now.path.now }
+    requires slots { length slots.old ≡ T.room route.now.tests.now }
+    requires values { length values.old ≡ T.room route.now.tests.now }
+    ensures finds { Finds (T.tests route.now.tests.now) (Loop head.now.var extent head.now.walk.now (tree_of head.now.body.now)) (pairs_in route.now.naming.now) route.now.path.now slots.old slots.new result }
     ensures values { length values.new ≡ length values.old }
 {
-    if tests.takes(walk, var, naming, slots, values) {
-        first(body, naming, tests, path, slots, values)
+    if has_kernel(head.body) {
+        return if has_lane(head, extent, route, slots, values) {
+            Some(0)
+        } else {
+            None
+        };
+    }
+    match route.path.split_first() {
+        None => first_from(head, route, 0, extent, slots, values),
+        Some((x, rest)) => {
+            let below = Route {
+                tests: route.tests,
+                naming: route.naming,
+                path: rest,
+            };
+            first_from(head, &below, *x, *x + 1, slots, values)
+        }
+    }
+}
+
+/// Goes to the first visit of a precompute node.
+#[cycle(first)]
+fn first_in_branches<T: Testing>(
+    branches: &Branches,
+    route: &Route<T>,
+    slots: &mut [u32],
+    values: &mut [Option<u32>],
+) -> Option<u32>
+    requires ready { T.ready route.now.tests.now }
+    requires few { leaf_count (tree_of branches.now.producer.now) + leaf_count (tree_of branches.now.consumer.now) < 2 ^ 32 }
+    requires room { HaveSlots (Pre 0 branches.now.pairs.now (tree_of branches.now.producer.now) (tree_of branches.now.consumer.now)) (length slots.old) }
+    requires zero { AreZero (Pre 0 branches.now.pairs.now (tree_of branches.now.producer.now) (tree_of branches.now.consumer.now)) slots.old }
+    requires slots { length slots.old ≡ T.room route.now.tests.now }
+    requires values { length values.old ≡ T.room route.now.tests.now }
+    ensures finds { (work : ℕ) → Finds (T.tests route.now.tests.now) (Pre work branches.now.pairs.now (tree_of branches.now.producer.now) (tree_of branches.now.consumer.now)) (pairs_in route.now.naming.now) route.now.path.now slots.old slots.new result }
+    ensures values { length values.new ≡ length values.old }
+{
+    let inner = Naming::Under(branches.pairs, route.naming);
+    let inside = Route {
+        tests: route.tests,
+        naming: &inner,
+        path: &[],
+    };
+    if let Some(leaf) = first(branches.producer, &inside, slots, values) {
+        return Some(leaf);
+    }
+    let outside = Route {
+        tests: route.tests,
+        naming: route.naming,
+        path: &[],
+    };
+    match first(branches.consumer, &outside, slots, values) {
+        None => None,
+        Some(leaf) => Some(leaves(branches.producer) + leaf),
+    }
+}
+
+/// Goes to the first visit at the value that a loop's slot has, or leaves the slots as they are.
+#[cycle(first)]
+fn enter<T: Testing>(
+    head: &Head,
+    route: &Route<T>,
+    slots: &mut [u32],
+    values: &mut [Option<u32>],
+) -> Option<u32>
+    requires ready { T.ready route.now.tests.now }
+    requires few { leaf_count (tree_of head.now.body.now) < 2 ^ 32 }
+    requires room { HaveSlots (tree_of head.now.body.now) (length slots.old) }
+    requires zero { AreZero (tree_of head.now.body.now) slots.old }
+    requires path { IsPathIn (tree_of head.now.body.now) route.now.path.now }
+    requires slots { length slots.old ≡ T.room route.now.tests.now }
+    requires values { length values.old ≡ T.room route.now.tests.now }
+    ensures enters { Enters (T.tests route.now.tests.now) head.now.walk.now head.now.var (tree_of head.now.body.now) (pairs_in route.now.naming.now) route.now.path.now slots.old slots.new result }
+    ensures values { length values.new ≡ length values.old }
+{
+    if route
+        .tests
+        .takes(head.walk, head.var, route.naming, slots, values)
+    {
+        first(head.body, route, slots, values)
     } else {
         None
     }
@@ -255,33 +322,30 @@ fn enter<T: Testing>(
 /// Goes to the first visit of a loop's values from one number up to another.
 #[cycle(first)]
 fn first_from<T: Testing>(
-    body: &Nest,
-    walk: &Option<Walk>,
-    var: u32,
+    head: &Head,
+    route: &Route<T>,
     from: u32,
     to: u32,
-    naming: &Naming,
-    tests: &T,
-    path: &[u32],
     slots: &mut [u32],
     values: &mut [Option<u32>],
 ) -> Option<u32>
-    requires ready { T.ready tests.now }
-    requires few { leaf_count (tree_of body.now) < 2 ^ 32 }
-    requires room { HaveSlots (Loop var to walk.now (tree_of body.now)) (length slots.old) }
-    requires zero { AreZero (Loop var to walk.now (tree_of body.now)) slots.old }
-    requires path { IsPathIn (tree_of body.now) path.now }
-    requires slots { length slots.old ≡ T.room tests.now }
-    requires values { length values.old ≡ T.room tests.now }
-    ensures finds { FindsFrom (T.tests tests.now) walk.now var (tree_of body.now) (pairs_in naming.now) path.now from to slots.old slots.new result }
+    requires ready { T.ready route.now.tests.now }
+    requires few { leaf_count (tree_of head.now.body.now) < 2 ^ 32 }
+    requires room { HaveSlots (Loop head.now.var to head.now.walk.now (tree_of head.now.body.now)) (length slots.old) }
+    requires zero { AreZero (Loop head.now.var to head.now.walk.now (tree_of head.now.body.now)) slots.old }
+    requires path { IsPathIn (tree_of head.now.body.now) route.now.path.now }
+    requires slots { length slots.old ≡ T.room route.now.tests.now }
+    requires values { length values.old ≡ T.room route.now.tests.now }
+    ensures finds { FindsFrom (T.tests route.now.tests.now) head.now.walk.now head.now.var (tree_of head.now.body.now) (pairs_in route.now.naming.now) route.now.path.now from to slots.old slots.new result }
     ensures values { length values.new ≡ length values.old }
 {
+    let at = head.var as usize;
     for i in from..to {
-        slots[var as usize] = i;
-        if let Some(leaf) = enter(body, walk, var, naming, tests, path, slots, values) {
+        slots[at] = i;
+        if let Some(leaf) = enter(head, route, slots, values) {
             return Some(leaf);
         }
-        slots[var as usize] = 0;
+        slots[at] = 0;
     }
     None
 }
@@ -308,23 +372,22 @@ fn end_of(path: &[u32], extent: u32, x: u32) -> u32
 }
 
 /// Goes from the visit of a leaf to the next visit on a path, or sets the slots of the nest to 0.
+#[cycle(next_visit)]
 pub fn next_visit<T: Testing>(
     nest: &Nest,
-    naming: &Naming,
-    tests: &T,
-    path: &[u32],
+    route: &Route<T>,
     leaf: u32,
     slots: &mut [u32],
     values: &mut [Option<u32>],
 ) -> Option<Stand>
-    requires ready { T.ready tests.now }
+    requires ready { T.ready route.now.tests.now }
     requires few { leaf_count (tree_of nest.now) < 2 ^ 32 }
     requires room { HaveSlots (tree_of nest.now) (length slots.old) }
     requires stands { IsAt (tree_of nest.now) slots.old leaf }
-    requires path { IsPathIn (tree_of nest.now) path.now }
-    requires slots { length slots.old ≡ T.room tests.now }
-    requires values { length values.old ≡ T.room tests.now }
-    ensures steps { Steps (T.tests tests.now) (tree_of nest.now) (pairs_in naming.now) path.now leaf slots.old slots.new result }
+    requires path { IsPathIn (tree_of nest.now) route.now.path.now }
+    requires slots { length slots.old ≡ T.room route.now.tests.now }
+    requires values { length values.old ≡ T.room route.now.tests.now }
+    ensures steps { Steps (T.tests route.now.tests.now) (tree_of nest.now) (pairs_in route.now.naming.now) route.now.path.now leaf slots.old slots.new result }
     ensures values { length values.new ≡ length values.old }
 {
     match nest {
@@ -334,32 +397,12 @@ pub fn next_visit<T: Testing>(
             walk,
             body,
         } => {
-            if has_kernel(body) {
-                return None;
-            }
-            let end = *extent;
-            let x = slots[*var as usize];
-            let rest = below_first(path);
-            if let Some(stand) = next_visit(body, naming, tests, rest, leaf, slots, values) {
-                return Some(stand);
-            }
-            slots[*var as usize] = 0;
-            let to = end_of(path, end, x);
-            match first_from(
-                body,
+            let head = Head {
+                var: *var,
                 walk,
-                *var,
-                x + 1,
-                to,
-                naming,
-                tests,
-                rest,
-                slots,
-                values,
-            ) {
-                None => None,
-                Some(leaf) => Some(Stand { leaf, past: 0 }),
-            }
+                body: &**body,
+            };
+            next_in_loop(&head, *extent, route, leaf, slots, values)
         }
         Nest::Pre {
             pairs,
@@ -367,32 +410,136 @@ pub fn next_visit<T: Testing>(
             consumer,
             ..
         } => {
-            let count = leaves(producer);
-            if leaf < count {
-                let inner = Naming::Under(pairs.as_slice(), &*naming);
-                if let Some(stand) = next_visit(producer, &inner, tests, &[], leaf, slots, values) {
-                    return Some(Stand {
-                        leaf: stand.leaf,
-                        past: stand.past + 1,
-                    });
-                }
-                match first(consumer, naming, tests, &[], slots, values) {
-                    None => None,
-                    Some(leaf) => Some(Stand {
-                        leaf: count + leaf,
-                        past: 1,
-                    }),
-                }
+            let branches = Branches {
+                pairs: pairs.as_slice(),
+                producer: &**producer,
+                consumer: &**consumer,
+            };
+            if leaf < leaves(branches.producer) {
+                next_in_producer(&branches, route, leaf, slots, values)
             } else {
-                match next_visit(consumer, naming, tests, &[], leaf - count, slots, values) {
-                    None => None,
-                    Some(stand) => Some(Stand {
-                        leaf: count + stand.leaf,
-                        past: stand.past + 1,
-                    }),
-                }
+                next_in_consumer(&branches, route, leaf, slots, values)
             }
         }
         Nest::Leaf { .. } => None,
+    }
+}
+
+/// Goes from the visit of a leaf in a loop to the next one in it.
+#[cycle(next_visit)]
+fn next_in_loop<T: Testing>(
+    head: &Head,
+    extent: u32,
+    route: &Route<T>,
+    leaf: u32,
+    slots: &mut [u32],
+    values: &mut [Option<u32>],
+) -> Option<Stand>
+    requires ready { T.ready route.now.tests.now }
+    requires few { leaf_count (tree_of head.now.body.now) < 2 ^ 32 }
+    requires room { HaveSlots (Loop head.now.var extent head.now.walk.now (tree_of head.now.body.now)) (length slots.old) }
+    requires stands { IsAt (Loop head.now.var extent head.now.walk.now (tree_of head.now.body.now)) slots.old leaf }
+    requires path { IsPathIn (Loop head.now.var extent head.now.walk.now (tree_of head.now.body.now)) route.now.path.now }
+    requires slots { length slots.old ≡ T.room route.now.tests.now }
+    requires values { length values.old ≡ T.room route.now.tests.now }
+    ensures steps { Steps (T.tests route.now.tests.now) (Loop head.now.var extent head.now.walk.now (tree_of head.now.body.now)) (pairs_in route.now.naming.now) route.now.path.now leaf slots.old slots.new result }
+    ensures values { length values.new ≡ length values.old }
+{
+    if has_kernel(head.body) {
+        return None;
+    }
+    let x = slots[head.var as usize];
+    let below = Route {
+        tests: route.tests,
+        naming: route.naming,
+        path: below_first(route.path),
+    };
+    if let Some(stand) = next_visit(head.body, &below, leaf, slots, values) {
+        return Some(stand);
+    }
+    slots[head.var as usize] = 0;
+    let to = end_of(route.path, extent, x);
+    match first_from(head, &below, x + 1, to, slots, values) {
+        None => None,
+        Some(leaf) => Some(Stand { leaf, past: 0 }),
+    }
+}
+
+/// Goes from the visit of a leaf in a producer to the next one there, or to the first one of the consumer.
+#[cycle(next_visit)]
+fn next_in_producer<T: Testing>(
+    branches: &Branches,
+    route: &Route<T>,
+    leaf: u32,
+    slots: &mut [u32],
+    values: &mut [Option<u32>],
+) -> Option<Stand>
+    requires ready { T.ready route.now.tests.now }
+    requires few { leaf_count (tree_of branches.now.producer.now) + leaf_count (tree_of branches.now.consumer.now) < 2 ^ 32 }
+    requires room { HaveSlots (Pre 0 branches.now.pairs.now (tree_of branches.now.producer.now) (tree_of branches.now.consumer.now)) (length slots.old) }
+    requires stands { IsAt (Pre 0 branches.now.pairs.now (tree_of branches.now.producer.now) (tree_of branches.now.consumer.now)) slots.old leaf }
+    requires inside { leaf < leaf_count (tree_of branches.now.producer.now) }
+    requires slots { length slots.old ≡ T.room route.now.tests.now }
+    requires values { length values.old ≡ T.room route.now.tests.now }
+    ensures steps { (work : ℕ) → Steps (T.tests route.now.tests.now) (Pre work branches.now.pairs.now (tree_of branches.now.producer.now) (tree_of branches.now.consumer.now)) (pairs_in route.now.naming.now) route.now.path.now leaf slots.old slots.new result }
+    ensures values { length values.new ≡ length values.old }
+{
+    let inner = Naming::Under(branches.pairs, route.naming);
+    let inside = Route {
+        tests: route.tests,
+        naming: &inner,
+        path: &[],
+    };
+    if let Some(stand) = next_visit(branches.producer, &inside, leaf, slots, values) {
+        return Some(Stand {
+            leaf: stand.leaf,
+            past: stand.past + 1,
+        });
+    }
+    let outside = Route {
+        tests: route.tests,
+        naming: route.naming,
+        path: &[],
+    };
+    match first(branches.consumer, &outside, slots, values) {
+        None => None,
+        Some(leaf) => Some(Stand {
+            leaf: leaves(branches.producer) + leaf,
+            past: 1,
+        }),
+    }
+}
+
+/// Goes from the visit of a leaf in a consumer to the next one there.
+#[cycle(next_visit)]
+fn next_in_consumer<T: Testing>(
+    branches: &Branches,
+    route: &Route<T>,
+    leaf: u32,
+    slots: &mut [u32],
+    values: &mut [Option<u32>],
+) -> Option<Stand>
+    requires ready { T.ready route.now.tests.now }
+    requires few { leaf_count (tree_of branches.now.producer.now) + leaf_count (tree_of branches.now.consumer.now) < 2 ^ 32 }
+    requires room { HaveSlots (Pre 0 branches.now.pairs.now (tree_of branches.now.producer.now) (tree_of branches.now.consumer.now)) (length slots.old) }
+    requires stands { IsAt (Pre 0 branches.now.pairs.now (tree_of branches.now.producer.now) (tree_of branches.now.consumer.now)) slots.old leaf }
+    requires inside { leaf_count (tree_of branches.now.producer.now) ≤ leaf }
+    requires slots { length slots.old ≡ T.room route.now.tests.now }
+    requires values { length values.old ≡ T.room route.now.tests.now }
+    ensures steps { (work : ℕ) → Steps (T.tests route.now.tests.now) (Pre work branches.now.pairs.now (tree_of branches.now.producer.now) (tree_of branches.now.consumer.now)) (pairs_in route.now.naming.now) route.now.path.now leaf slots.old slots.new result }
+    ensures values { length values.new ≡ length values.old }
+{
+    let count = leaves(branches.producer);
+    let outside = Route {
+        tests: route.tests,
+        naming: route.naming,
+        path: &[],
+    };
+    match next_visit(branches.consumer, &outside, leaf - count, slots, values) {
+        None => None,
+        Some(stand) => Some(Stand {
+            leaf: count + stand.leaf,
+            past: stand.past + 1,
+        }),
     }
 }

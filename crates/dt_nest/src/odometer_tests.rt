@@ -8,7 +8,7 @@ ghost use Rattle.dt_nest.specs.Visits.{IsPathIn};
 
 use crate::loops::{Kernel, Nest, Pair, Pairs, Walk};
 use crate::naming::Naming;
-use crate::odometer::{Testing, first, has_kernel, next_visit};
+use crate::odometer::{Route, Testing, first, has_kernel, next_visit};
 use dt_base::{NoMemory, Vars};
 use dt_model::{Access, Terms};
 use std::alloc::Global;
@@ -52,7 +52,7 @@ impl Testing for Rule {
 
     fn holds(
         &self,
-        _guards: &[u32],
+        _leaf: &Nest,
         _naming: &Naming,
         slots: &[u32],
         _values: &mut [Option<u32>],
@@ -164,7 +164,12 @@ fn visits_seen(
     let mut slots = [0u32; 3];
     let mut values = [None; 3];
     let mut list = Vec::new(alloc);
-    let mut leaf = match first(nest, &Naming::Root, rule, path, &mut slots, &mut values) {
+    let route = Route {
+        tests: rule,
+        naming: &Naming::Root,
+        path,
+    };
+    let mut leaf = match first(nest, &route, &mut slots, &mut values) {
         None => return Ok(list),
         Some(leaf) => leaf,
     };
@@ -174,15 +179,7 @@ fn visits_seen(
         slots,
     })?;
     for _ in 0..16 {
-        match next_visit(
-            nest,
-            &Naming::Root,
-            rule,
-            path,
-            leaf,
-            &mut slots,
-            &mut values,
-        ) {
+        match next_visit(nest, &route, leaf, &mut slots, &mut values) {
             None => return Ok(list),
             Some(stand) => {
                 leaf = stand.leaf;

@@ -11,7 +11,7 @@ use crate::against::Against;
 use crate::branches::work_of;
 use crate::loops::Nest;
 use crate::naming::Naming;
-use crate::odometer::{first, next_visit};
+use crate::odometer::{Route, first, next_visit};
 use dt_model::Locator;
 
 /// One item of a run: the reset of a workspace, or the visit of a leaf.
@@ -99,21 +99,18 @@ pub fn advanced<L: Locator>(
     ensures values { length values.new ≡ length values.old }
 {
     let nest = &against.parts.nest;
+    let route = Route {
+        tests: against,
+        naming: &Naming::Root,
+        path,
+    };
     match progress {
-        Progress::Before => match first(nest, &Naming::Root, against, path, slots, values) {
+        Progress::Before => match first(nest, &route, slots, values) {
             None => Progress::Done,
             Some(leaf) => arrival(nest, leaf, 0),
         },
         Progress::Resetting { leaf, past, .. } => arrival(nest, leaf, past),
-        Progress::On { leaf } => match next_visit(
-            nest,
-            &Naming::Root,
-            against,
-            path,
-            leaf,
-            slots,
-            values,
-        ) {
+        Progress::On { leaf } => match next_visit(nest, &route, leaf, slots, values) {
             None => Progress::Done,
             Some(stand) => arrival(nest, stand.leaf, stand.past),
         },

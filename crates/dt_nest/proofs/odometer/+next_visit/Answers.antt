@@ -1,104 +1,79 @@
-use Rattle.std.proofs.Common.{◌≡◌, ◌+◌, ◌-◌, ◌<◌, ◌^◌, ℕ, [], false, sym, ap, ◌∙◌, subst, refl, arith}
-use Rattle.std.specs.Prelude.{slice_set}
-use Rattle.std.proofs.lemmas.Grind.{common_steps}
-use Rattle.dt_nest.specs.Tree.{Tree, tree_of, leaf_count, is_kernel_leaf}
+use Rattle.std.proofs.Common.{◌≡◌, ◌+◌, ◌-◌, ◌<◌, ◌^◌, ℕ, List, [], sym, ap, ◌∙◌, refl, arith}
+use Rattle.dt_nest.specs.declared.loops.Nest.{Nest}
+use Rattle.dt_nest.specs.declared.loops.Pair.{Pair}
+use Rattle.dt_nest.specs.Tree.{tree_of, Loop, Pre, leaf_count}
 use Rattle.dt_nest.specs.Naming.{pairs_in}
-use Rattle.dt_nest.specs.Odometer.{AreZero}
-use Rattle.dt_nest.proofs.NextSearches.{body_room, body_stand, body_path, loop_next, over_zero, loop_next_over, loop_next_none, consumer_zero, pre_first_next, pre_over, pre_over_none, pre_second_next, pre_second_none, past_fits, body_smaller}
+use Rattle.dt_nest.proofs.Searches.{steps_at}
+use Rattle.dt_nest.proofs.NextSearches.{loop_next, over_zero, loop_next_over, loop_next_none, consumer_zero, pre_first_next, pre_over, pre_over_none, pre_second_next, pre_second_none, past_fits}
 use Rattle.dt_nest.proofs.odometer.+next_visit.Goals as goal
 
-pub next_visit-requires : goal.next_visit-requires
-next_visit-requires g t c κs within =
-    let k : is_kernel_leaf (tree_of c.deref-in-Loop.result.now) ≡ false = ap (λ b. is_kernel_leaf (tree_of b)) (c.deref-in-Loop.ensures ∙ sym c.deref.ensures) ∙ sym c.has_kernel.ensures ∙ c.if-has_kernel.false in (
-      body_smaller (tree_of c.args.nest.now) c.in-Loop.walk c.in-Loop.var c.in-Loop.extent (tree_of c.in-Loop.body.value) (tree_of c.deref-in-Loop.result.now) t (ap tree_of c.in-Loop.is) (ap tree_of c.deref-in-Loop.ensures) c.decreases,
-      (
-        grind (arith, common_steps),
-        (
-          grind (arith, common_steps),
-          (
-            grind (arith, common_steps),
-            (
-              body_room (g.T.Testing.tests c.args.tests.now) (tree_of c.args.nest.now) c.in-Loop.walk c.in-Loop.var c.in-Loop.extent (tree_of c.in-Loop.body.value) (tree_of c.deref-in-Loop.result.now) (pairs_in c.args.naming.now) c.args.path.now c.below_first-rest.result.now c.args.slots.now c.args.leaf (ap tree_of c.in-Loop.is) (ap tree_of c.deref-in-Loop.ensures) c.below_first-rest.ensures k c.requires.room c.requires.stands,
-              (
-                body_stand (g.T.Testing.tests c.args.tests.now) (tree_of c.args.nest.now) c.in-Loop.walk c.in-Loop.var c.in-Loop.extent (tree_of c.in-Loop.body.value) (tree_of c.deref-in-Loop.result.now) (pairs_in c.args.naming.now) c.args.path.now c.below_first-rest.result.now c.args.slots.now c.args.leaf (ap tree_of c.in-Loop.is) (ap tree_of c.deref-in-Loop.ensures) c.below_first-rest.ensures k c.requires.room c.requires.stands,
-                (body_path (g.T.Testing.tests c.args.tests.now) (tree_of c.args.nest.now) c.in-Loop.walk c.in-Loop.var c.in-Loop.extent (tree_of c.in-Loop.body.value) (tree_of c.deref-in-Loop.result.now) (pairs_in c.args.naming.now) c.args.path.now c.below_first-rest.result.now c.args.slots.now c.args.leaf (ap tree_of c.in-Loop.is) (ap tree_of c.deref-in-Loop.ensures) c.below_first-rest.ensures k c.requires.room c.requires.stands c.requires.path, (c.requires.slots, c.requires.values)),
-              ),
-            ),
-          ),
-        ),
-      ),
-    )
+pub next_visit-returns-in-Loop-clause-steps : goal.next_visit-returns-in-Loop-clause-steps
+next_visit-returns-in-Loop-clause-steps g t c =
+    steps_at (g.T.Testing.tests c.args.route.now.tests.now) (tree_of c.args.nest.now) (Loop c.in-Loop.var c.in-Loop.extent c.in-Loop.walk (tree_of c.deref.result.now)) (pairs_in c.args.route.now.naming.now) c.args.route.now.path.now c.args.leaf c.args.slots.now c.next_in_loop.new.slots c.next_in_loop.result
+    (ap tree_of c.in-Loop.is ∙ ap (λ (b : Nest). Loop c.in-Loop.var c.in-Loop.extent c.in-Loop.walk (tree_of b)) (sym c.deref.ensures)) c.next_in_loop.ensures.steps
 
-pub returns-in-Some-clause-steps : goal.returns-in-Some-clause-steps
-returns-in-Some-clause-steps g t c =
-    let k : is_kernel_leaf (tree_of c.deref-in-Loop.result.now) ≡ false = ap (λ b. is_kernel_leaf (tree_of b)) (c.deref-in-Loop.ensures ∙ sym c.deref.ensures) ∙ sym c.has_kernel.ensures ∙ c.if-has_kernel.false in
-    loop_next _ _ c.in-Loop.walk c.in-Loop.var c.in-Loop.extent (tree_of c.in-Loop.body.value) _ _ _ _ _ _ (ap tree_of c.in-Loop.is) (ap tree_of c.deref-in-Loop.ensures) c.below_first-rest.ensures k c.requires.room c.requires.stands _ _ c.in-Some.ensures.steps
+pub next_in_loop-returns-in-Some-clause-steps : goal.next_in_loop-returns-in-Some-clause-steps
+next_in_loop-returns-in-Some-clause-steps g t c = loop_next (g.T.Testing.tests c.args.route.now.tests.now) (Loop c.args.head.now.var c.args.extent c.args.head.now.walk.now (tree_of c.args.head.now.body.now)) c.args.head.now.walk.now c.args.head.now.var c.args.extent (tree_of c.args.head.now.body.now) (tree_of c.args.head.now.body.now) (pairs_in c.args.route.now.naming.now) c.args.route.now.path.now c.below_first.result.now c.args.slots.now c.args.leaf refl refl c.below_first.ensures (sym c.has_kernel.ensures ∙ c.if-has_kernel.false) c.requires.room c.requires.stands _ _ c.in-Some.ensures.steps
 
-pub first_from-requires-clause-zero : goal.first_from-requires-clause-zero
-first_from-requires-clause-zero g t c =
-    let k : is_kernel_leaf (tree_of c.deref-in-Loop.result.now) ≡ false = ap (λ b. is_kernel_leaf (tree_of b)) (c.deref-in-Loop.ensures ∙ sym c.deref.ensures) ∙ sym c.has_kernel.ensures ∙ c.if-has_kernel.false in
-    let z = over_zero (g.T.Testing.tests c.args.tests.now) (tree_of c.args.nest.now) c.in-Loop.walk c.in-Loop.var c.in-Loop.extent (tree_of c.in-Loop.body.value) (tree_of c.deref-in-Loop.result.now) (pairs_in c.args.naming.now) c.args.path.now c.below_first-rest.result.now c.args.slots.now c.args.leaf (ap tree_of c.in-Loop.is) (ap tree_of c.deref-in-Loop.ensures) c.below_first-rest.ensures k c.requires.room c.requires.stands c.next_visit.new.slots c.in_default.ensures.steps in
-    (z.0, subst (λ b. AreZero (tree_of b) (slice_set c.next_visit.new.slots c.in-Loop.var 0)) (c.deref-in-Loop.ensures ∙ sym c.deref-in-Loop-2.ensures) z.1)
+pub next_in_loop-first_from-requires-clause-zero : goal.next_in_loop-first_from-requires-clause-zero
+next_in_loop-first_from-requires-clause-zero g t c = over_zero (g.T.Testing.tests c.args.route.now.tests.now) (Loop c.args.head.now.var c.args.extent c.args.head.now.walk.now (tree_of c.args.head.now.body.now)) c.args.head.now.walk.now c.args.head.now.var c.args.extent (tree_of c.args.head.now.body.now) (tree_of c.args.head.now.body.now) (pairs_in c.args.route.now.naming.now) c.args.route.now.path.now c.below_first.result.now c.args.slots.now c.args.leaf refl refl c.below_first.ensures (sym c.has_kernel.ensures ∙ c.if-has_kernel.false) c.requires.room c.requires.stands c.next_visit.new.slots c.in_default.ensures.steps
 
-pub first_from-requires-clause-path : goal.first_from-requires-clause-path
-first_from-requires-clause-path g t c =
-    let k : is_kernel_leaf (tree_of c.deref-in-Loop-2.result.now) ≡ false = ap (λ b. is_kernel_leaf (tree_of b)) (c.deref-in-Loop-2.ensures ∙ sym c.deref.ensures) ∙ sym c.has_kernel.ensures ∙ c.if-has_kernel.false in
-    body_path (g.T.Testing.tests c.args.tests.now) (tree_of c.args.nest.now) c.in-Loop.walk c.in-Loop.var c.in-Loop.extent (tree_of c.in-Loop.body.value) (tree_of c.deref-in-Loop-2.result.now) (pairs_in c.args.naming.now) c.args.path.now c.below_first-rest.result.now c.args.slots.now c.args.leaf (ap tree_of c.in-Loop.is) (ap tree_of c.deref-in-Loop-2.ensures) c.below_first-rest.ensures k c.requires.room c.requires.stands c.requires.path
+pub next_in_loop-returns-in-None-clause-steps : goal.next_in_loop-returns-in-None-clause-steps
+next_in_loop-returns-in-None-clause-steps g t c = loop_next_none (g.T.Testing.tests c.args.route.now.tests.now) (Loop c.args.head.now.var c.args.extent c.args.head.now.walk.now (tree_of c.args.head.now.body.now)) c.args.head.now.walk.now c.args.head.now.var c.args.extent (tree_of c.args.head.now.body.now) (tree_of c.args.head.now.body.now) (pairs_in c.args.route.now.naming.now) c.args.route.now.path.now c.below_first.result.now c.args.slots.now c.args.leaf refl refl c.below_first.ensures (sym c.has_kernel.ensures ∙ c.if-has_kernel.false) c.requires.room c.requires.stands (tree_of c.args.head.now.body.now) c.next_visit.new.slots _ c.end_of-to.result refl c.end_of-to.ensures c.in_default.ensures.steps c.in-None.ensures.finds
 
-pub returns-in-None-clause-steps : goal.returns-in-None-clause-steps
-returns-in-None-clause-steps g t c =
-    let k : is_kernel_leaf (tree_of c.deref-in-Loop.result.now) ≡ false = ap (λ b. is_kernel_leaf (tree_of b)) (c.deref-in-Loop.ensures ∙ sym c.deref.ensures) ∙ sym c.has_kernel.ensures ∙ c.if-has_kernel.false in
-    loop_next_none _ _ c.in-Loop.walk c.in-Loop.var c.in-Loop.extent (tree_of c.in-Loop.body.value) _ _ _ _ _ _ (ap tree_of c.in-Loop.is) (ap tree_of c.deref-in-Loop.ensures) c.below_first-rest.ensures k c.requires.room c.requires.stands (tree_of c.deref-in-Loop-2.result.now) c.next_visit.new.slots _ c.end_of-to.result (ap tree_of c.deref-in-Loop-2.ensures) c.end_of-to.ensures c.in_default.ensures.steps c.in-None.ensures.finds
+pub next_in_loop-returns-in-Some-first_from-clause-steps : goal.next_in_loop-returns-in-Some-first_from-clause-steps
+next_in_loop-returns-in-Some-first_from-clause-steps g t c = loop_next_over (g.T.Testing.tests c.args.route.now.tests.now) (Loop c.args.head.now.var c.args.extent c.args.head.now.walk.now (tree_of c.args.head.now.body.now)) c.args.head.now.walk.now c.args.head.now.var c.args.extent (tree_of c.args.head.now.body.now) (tree_of c.args.head.now.body.now) (pairs_in c.args.route.now.naming.now) c.args.route.now.path.now c.below_first.result.now c.args.slots.now c.args.leaf refl refl c.below_first.ensures (sym c.has_kernel.ensures ∙ c.if-has_kernel.false) c.requires.room c.requires.stands (tree_of c.args.head.now.body.now) c.next_visit.new.slots _ c.end_of-to.result c.in-Some-first_from.leaf _ refl c.end_of-to.ensures refl refl c.in_default.ensures.steps c.in-Some-first_from.ensures.finds
 
-pub returns-in-Some-first_from-clause-steps : goal.returns-in-Some-first_from-clause-steps
-returns-in-Some-first_from-clause-steps g t c =
-    let k : is_kernel_leaf (tree_of c.deref-in-Loop.result.now) ≡ false = ap (λ b. is_kernel_leaf (tree_of b)) (c.deref-in-Loop.ensures ∙ sym c.deref.ensures) ∙ sym c.has_kernel.ensures ∙ c.if-has_kernel.false in
-    loop_next_over _ _ c.in-Loop.walk c.in-Loop.var c.in-Loop.extent (tree_of c.in-Loop.body.value) _ _ _ _ _ _ (ap tree_of c.in-Loop.is) (ap tree_of c.deref-in-Loop.ensures) c.below_first-rest.ensures k c.requires.room c.requires.stands (tree_of c.deref-in-Loop-2.result.now) c.next_visit.new.slots _ c.end_of-to.result c.in-Some-first_from.leaf _ (ap tree_of c.deref-in-Loop-2.ensures) c.end_of-to.ensures refl refl c.in_default.ensures.steps c.in-Some-first_from.ensures.finds
+pub next_in_producer-returns-in-Some-clause-steps : goal.next_in_producer-returns-in-Some-clause-steps
+next_in_producer-returns-in-Some-clause-steps g t c work = pre_first_next (g.T.Testing.tests c.args.route.now.tests.now) (Pre work c.args.branches.now.pairs.now (tree_of c.args.branches.now.producer.now) (tree_of c.args.branches.now.consumer.now)) work c.args.branches.now.pairs.now c.args.branches.now.pairs.now (tree_of c.args.branches.now.producer.now) (tree_of c.args.branches.now.consumer.now) (tree_of c.args.branches.now.producer.now) (tree_of c.args.branches.now.consumer.now) (pairs_in c.args.route.now.naming.now) c.args.route.now.path.now c.args.slots.now c.args.leaf refl refl refl refl c.requires.room c.requires.stands _ c.in-Some.stand _ c.requires.inside refl refl c.in-Some.ensures.steps
 
-pub overflow_add-result : goal.overflow_add-result
-overflow_add-result g t c =
-    let few : leaf_count (tree_of c.deref-then-leaf-count.result.now) < 2 ^ 32 = omega (arith, subst (λ (x : Tree). leaf_count x < 2 ^ 32) (ap tree_of c.in-Pre.is) c.requires.few, ap (λ b. leaf_count (tree_of b)) c.deref-then-leaf-count.ensures) in
-    let l = past_fits _ _ _ _ _ _ _ _ few c.in-Some-next_visit.ensures.steps in
+pub next_in_producer-returns-in-None-clause-steps : goal.next_in_producer-returns-in-None-clause-steps
+next_in_producer-returns-in-None-clause-steps g t c work = pre_over_none (g.T.Testing.tests c.args.route.now.tests.now) (Pre work c.args.branches.now.pairs.now (tree_of c.args.branches.now.producer.now) (tree_of c.args.branches.now.consumer.now)) work c.args.branches.now.pairs.now c.args.branches.now.pairs.now (tree_of c.args.branches.now.producer.now) (tree_of c.args.branches.now.consumer.now) (tree_of c.args.branches.now.producer.now) (tree_of c.args.branches.now.consumer.now) (pairs_in c.args.route.now.naming.now) c.args.route.now.path.now c.args.slots.now c.args.leaf refl refl refl refl c.requires.room c.requires.stands c.next_visit.new.slots _ c.requires.inside c.in_default.ensures.steps c.in-None.ensures.finds
+
+pub next_in_producer-returns-in-Some-first-clause-steps : goal.next_in_producer-returns-in-Some-first-clause-steps
+next_in_producer-returns-in-Some-first-clause-steps g t c work = pre_over (g.T.Testing.tests c.args.route.now.tests.now) (Pre work c.args.branches.now.pairs.now (tree_of c.args.branches.now.producer.now) (tree_of c.args.branches.now.consumer.now)) work c.args.branches.now.pairs.now c.args.branches.now.pairs.now (tree_of c.args.branches.now.producer.now) (tree_of c.args.branches.now.consumer.now) (tree_of c.args.branches.now.producer.now) (tree_of c.args.branches.now.consumer.now) (pairs_in c.args.route.now.naming.now) c.args.route.now.path.now c.args.slots.now c.args.leaf refl refl refl refl c.requires.room c.requires.stands c.next_visit.new.slots _ c.in-Some-first.leaf _ c.requires.inside (ap (λ (k : ℕ). k + c.in-Some-first.leaf) (sym c.leaves.ensures)) refl c.in_default.ensures.steps c.in-Some-first.ensures.finds
+
+pub next_in_producer-first-requires-clause-zero : goal.next_in_producer-first-requires-clause-zero
+next_in_producer-first-requires-clause-zero g t c = consumer_zero (g.T.Testing.tests c.args.route.now.tests.now) (Pre 0 c.args.branches.now.pairs.now (tree_of c.args.branches.now.producer.now) (tree_of c.args.branches.now.consumer.now)) 0 c.args.branches.now.pairs.now c.args.branches.now.pairs.now (tree_of c.args.branches.now.producer.now) (tree_of c.args.branches.now.consumer.now) (tree_of c.args.branches.now.producer.now) (tree_of c.args.branches.now.consumer.now) (pairs_in c.args.route.now.naming.now) c.args.route.now.path.now c.args.slots.now c.args.leaf refl refl refl refl c.requires.room c.requires.stands c.next_visit.new.slots c.requires.inside c.in_default.ensures.steps
+
+pub next_in_consumer-returns-in-None-clause-steps : goal.next_in_consumer-returns-in-None-clause-steps
+next_in_consumer-returns-in-None-clause-steps g t c work = pre_second_none (g.T.Testing.tests c.args.route.now.tests.now) (Pre work c.args.branches.now.pairs.now (tree_of c.args.branches.now.producer.now) (tree_of c.args.branches.now.consumer.now)) work c.args.branches.now.pairs.now c.args.branches.now.pairs.now (tree_of c.args.branches.now.producer.now) (tree_of c.args.branches.now.consumer.now) (tree_of c.args.branches.now.producer.now) (tree_of c.args.branches.now.consumer.now) (pairs_in c.args.route.now.naming.now) c.args.route.now.path.now c.args.slots.now c.args.leaf refl refl refl refl c.requires.room c.requires.stands _ (c.args.leaf - c.leaves-count.result) (omega (arith, c.requires.inside, c.leaves-count.ensures)) c.in-None.ensures.steps
+
+pub next_in_consumer-returns-in-Some-clause-steps : goal.next_in_consumer-returns-in-Some-clause-steps
+next_in_consumer-returns-in-Some-clause-steps g t c work = pre_second_next (g.T.Testing.tests c.args.route.now.tests.now) (Pre work c.args.branches.now.pairs.now (tree_of c.args.branches.now.producer.now) (tree_of c.args.branches.now.consumer.now)) work c.args.branches.now.pairs.now c.args.branches.now.pairs.now (tree_of c.args.branches.now.producer.now) (tree_of c.args.branches.now.consumer.now) (tree_of c.args.branches.now.producer.now) (tree_of c.args.branches.now.consumer.now) (pairs_in c.args.route.now.naming.now) c.args.route.now.path.now c.args.slots.now c.args.leaf refl refl refl refl c.requires.room c.requires.stands _ (c.args.leaf - c.leaves-count.result) c.in-Some.stand _ (omega (arith, c.requires.inside, c.leaves-count.ensures)) (ap (λ (k : ℕ). k + c.in-Some.stand.leaf) (sym c.leaves-count.ensures)) refl c.in-Some.ensures.steps
+
+pub next_visit-returns-then-leaf-leaves-clause-steps : goal.next_visit-returns-then-leaf-leaves-clause-steps
+next_visit-returns-then-leaf-leaves-clause-steps g t c =
+    steps_at (g.T.Testing.tests c.args.route.now.tests.now) (tree_of c.args.nest.now) (Pre c.in-Pre.work c.as_slice.result.now (tree_of c.deref-in-Pre.result.now) (tree_of c.deref-in-Pre-2.result.now)) (pairs_in c.args.route.now.naming.now) c.args.route.now.path.now c.args.leaf c.args.slots.now c.next_in_producer.new.slots c.next_in_producer.result
+    (ap tree_of c.in-Pre.is ∙ ap (λ (l : List Pair). Pre c.in-Pre.work l (tree_of c.in-Pre.producer.value) (tree_of c.in-Pre.consumer.value)) (sym c.as_slice.ensures)
+    ∙ ap (λ (b : Nest). Pre c.in-Pre.work c.as_slice.result.now (tree_of b) (tree_of c.in-Pre.consumer.value)) (sym c.deref-in-Pre.ensures)
+    ∙ ap (λ (b : Nest). Pre c.in-Pre.work c.as_slice.result.now (tree_of c.deref-in-Pre.result.now) (tree_of b)) (sym c.deref-in-Pre-2.ensures)) (c.next_in_producer.ensures.steps c.in-Pre.work)
+
+pub next_visit-returns-else-leaf-leaves-clause-steps : goal.next_visit-returns-else-leaf-leaves-clause-steps
+next_visit-returns-else-leaf-leaves-clause-steps g t c =
+    steps_at (g.T.Testing.tests c.args.route.now.tests.now) (tree_of c.args.nest.now) (Pre c.in-Pre.work c.as_slice.result.now (tree_of c.deref-in-Pre.result.now) (tree_of c.deref-in-Pre-2.result.now)) (pairs_in c.args.route.now.naming.now) c.args.route.now.path.now c.args.leaf c.args.slots.now c.next_in_consumer.new.slots c.next_in_consumer.result
+    (ap tree_of c.in-Pre.is ∙ ap (λ (l : List Pair). Pre c.in-Pre.work l (tree_of c.in-Pre.producer.value) (tree_of c.in-Pre.consumer.value)) (sym c.as_slice.ensures)
+    ∙ ap (λ (b : Nest). Pre c.in-Pre.work c.as_slice.result.now (tree_of b) (tree_of c.in-Pre.consumer.value)) (sym c.deref-in-Pre.ensures)
+    ∙ ap (λ (b : Nest). Pre c.in-Pre.work c.as_slice.result.now (tree_of c.deref-in-Pre.result.now) (tree_of b)) (sym c.deref-in-Pre-2.ensures)) (c.next_in_consumer.ensures.steps c.in-Pre.work)
+
+pub next_in_consumer-overflow_add-result : goal.next_in_consumer-overflow_add-result
+next_in_consumer-overflow_add-result g t c =
+    let some = (c.in-Some.ensures.steps.goes.0 []).exists in
+    omega (arith, c.requires.few, some, c.leaves-count.ensures)
+
+pub next_in_consumer-overflow_add-result-in-Some : goal.next_in_consumer-overflow_add-result-in-Some
+next_in_consumer-overflow_add-result-in-Some g t c =
+    let few : leaf_count (tree_of c.args.branches.now.consumer.now) < 2 ^ 32 = omega (arith, c.requires.few) in
+    let l = past_fits _ _ _ _ _ _ _ _ few c.in-Some.ensures.steps in
     omega arith
 
-pub returns-in-Some-next_visit-clause-steps : goal.returns-in-Some-next_visit-clause-steps
-returns-in-Some-next_visit-clause-steps g t c =
-    pre_first_next _ _ c.in-Pre.work c.in-Pre.pairs c.as_slice.result.now (tree_of c.in-Pre.producer.value) (tree_of c.in-Pre.consumer.value) (tree_of c.deref-then-leaf-count.result.now) (tree_of c.in-Pre.consumer.value) _ _ _ _ (ap tree_of c.in-Pre.is) c.as_slice.ensures (ap tree_of c.deref-then-leaf-count.ensures) refl c.requires.room c.requires.stands _ c.in-Some-next_visit.stand _ (omega (arith, c.if-leaf-count.true, c.leaves-count.ensures, ap (λ b. leaf_count (tree_of b)) c.deref-in-Pre.ensures)) refl refl c.in-Some-next_visit.ensures.steps
-
-pub first-requires-clause-zero : goal.first-requires-clause-zero
-first-requires-clause-zero g t c =
-    consumer_zero (g.T.Testing.tests c.args.tests.now) (tree_of c.args.nest.now) c.in-Pre.work c.in-Pre.pairs c.as_slice.result.now (tree_of c.in-Pre.producer.value) (tree_of c.in-Pre.consumer.value) (tree_of c.deref-then-leaf-count.result.now) (tree_of c.deref-then-leaf-count-2.result.now) (pairs_in c.args.naming.now) c.args.path.now c.args.slots.now c.args.leaf (ap tree_of c.in-Pre.is) c.as_slice.ensures (ap tree_of c.deref-then-leaf-count.ensures) (ap tree_of c.deref-then-leaf-count-2.ensures) c.requires.room c.requires.stands c.next_visit-then-leaf-count.new.slots (omega (arith, c.if-leaf-count.true, c.leaves-count.ensures, ap (λ b. leaf_count (tree_of b)) c.deref-in-Pre.ensures)) c.in_default-next_visit.ensures.steps
-
-pub returns-in-None-first-clause-steps : goal.returns-in-None-first-clause-steps
-returns-in-None-first-clause-steps g t c =
-    pre_over_none _ _ c.in-Pre.work c.in-Pre.pairs c.as_slice.result.now (tree_of c.in-Pre.producer.value) (tree_of c.in-Pre.consumer.value) (tree_of c.deref-then-leaf-count.result.now) (tree_of c.deref-then-leaf-count-2.result.now) _ _ _ _ (ap tree_of c.in-Pre.is) c.as_slice.ensures (ap tree_of c.deref-then-leaf-count.ensures) (ap tree_of c.deref-then-leaf-count-2.ensures) c.requires.room c.requires.stands c.next_visit-then-leaf-count.new.slots _ (omega (arith, c.if-leaf-count.true, c.leaves-count.ensures, ap (λ b. leaf_count (tree_of b)) c.deref-in-Pre.ensures)) c.in_default-next_visit.ensures.steps c.in-None-first.ensures.finds
-
-pub returns-in-Some-first-clause-steps : goal.returns-in-Some-first-clause-steps
-returns-in-Some-first-clause-steps g t c =
-    pre_over _ _ c.in-Pre.work c.in-Pre.pairs c.as_slice.result.now (tree_of c.in-Pre.producer.value) (tree_of c.in-Pre.consumer.value) (tree_of c.deref-then-leaf-count.result.now) (tree_of c.deref-then-leaf-count-2.result.now) _ _ _ _ (ap tree_of c.in-Pre.is) c.as_slice.ensures (ap tree_of c.deref-then-leaf-count.ensures) (ap tree_of c.deref-then-leaf-count-2.ensures) c.requires.room c.requires.stands c.next_visit-then-leaf-count.new.slots _ c.in-Some-first.leaf _ (omega (arith, c.if-leaf-count.true, c.leaves-count.ensures, ap (λ b. leaf_count (tree_of b)) c.deref-in-Pre.ensures)) (ap (λ (k : ℕ). k + c.in-Some-first.leaf) (sym (c.leaves-count.ensures ∙ ap (λ b. leaf_count (tree_of b)) c.deref-in-Pre.ensures))) refl c.in_default-next_visit.ensures.steps c.in-Some-first.ensures.finds
-
-pub overflow_add-result-in-Some-next_visit-2-2 : goal.overflow_add-result-in-Some-next_visit-2-2
-overflow_add-result-in-Some-next_visit-2-2 g t c =
-    let few : leaf_count (tree_of c.deref-else-leaf-count.result.now) < 2 ^ 32 = omega (arith, subst (λ (x : Tree). leaf_count x < 2 ^ 32) (ap tree_of c.in-Pre.is) c.requires.few, ap (λ b. leaf_count (tree_of b)) c.deref-else-leaf-count.ensures) in
-    let l = past_fits _ _ _ _ _ _ _ _ few c.in-Some-next_visit-2.ensures.steps in
+pub next_in_producer-overflow_add-result : goal.next_in_producer-overflow_add-result
+next_in_producer-overflow_add-result g t c =
+    let few : leaf_count (tree_of c.args.branches.now.producer.now) < 2 ^ 32 = omega (arith, c.requires.few) in
+    let l = past_fits _ _ _ _ _ _ _ _ few c.in-Some.ensures.steps in
     omega arith
 
-pub returns-in-None-next_visit-clause-steps : goal.returns-in-None-next_visit-clause-steps
-returns-in-None-next_visit-clause-steps g t c =
-    pre_second_none _ _ c.in-Pre.work c.in-Pre.pairs c.in-Pre.pairs (tree_of c.in-Pre.producer.value) (tree_of c.in-Pre.consumer.value) (tree_of c.in-Pre.producer.value) (tree_of c.deref-else-leaf-count.result.now) _ _ _ _ (ap tree_of c.in-Pre.is) refl refl (ap tree_of c.deref-else-leaf-count.ensures) c.requires.room c.requires.stands _ (c.args.leaf - c.leaves-count.result) (omega (arith, c.if-leaf-count.false, c.leaves-count.ensures, ap (λ b. leaf_count (tree_of b)) c.deref-in-Pre.ensures)) c.in-None-next_visit.ensures.steps
-
-pub returns-in-Some-next_visit-2-clause-steps : goal.returns-in-Some-next_visit-2-clause-steps
-returns-in-Some-next_visit-2-clause-steps g t c =
-    pre_second_next _ _ c.in-Pre.work c.in-Pre.pairs c.in-Pre.pairs (tree_of c.in-Pre.producer.value) (tree_of c.in-Pre.consumer.value) (tree_of c.in-Pre.producer.value) (tree_of c.deref-else-leaf-count.result.now) _ _ _ _ (ap tree_of c.in-Pre.is) refl refl (ap tree_of c.deref-else-leaf-count.ensures) c.requires.room c.requires.stands _ (c.args.leaf - c.leaves-count.result) c.in-Some-next_visit-2.stand _ (omega (arith, c.if-leaf-count.false, c.leaves-count.ensures, ap (λ b. leaf_count (tree_of b)) c.deref-in-Pre.ensures)) (ap (λ (k : ℕ). k + c.in-Some-next_visit-2.stand.leaf) (sym (c.leaves-count.ensures ∙ ap (λ b. leaf_count (tree_of b)) c.deref-in-Pre.ensures))) refl c.in-Some-next_visit-2.ensures.steps
-
-pub overflow_add-result-in-Some-first : goal.overflow_add-result-in-Some-first
-overflow_add-result-in-Some-first g t c =
-    let whole : leaf_count (tree_of c.in-Pre.producer.value) + leaf_count (tree_of c.in-Pre.consumer.value) < 2 ^ 32 = subst (λ (x : Tree). leaf_count x < 2 ^ 32) (ap tree_of c.in-Pre.is) c.requires.few in
+pub next_in_producer-overflow_add-result-in-Some-first : goal.next_in_producer-overflow_add-result-in-Some-first
+next_in_producer-overflow_add-result-in-Some-first g t c =
     let some = (c.in-Some-first.ensures.finds.goes.0 []).exists in
-    omega (arith, whole, some, c.leaves-count.ensures, ap (λ b. leaf_count (tree_of b)) c.deref-in-Pre.ensures, ap (λ b. leaf_count (tree_of b)) c.deref-then-leaf-count-2.ensures)
-
-pub overflow_add-result-in-Some-next_visit-2 : goal.overflow_add-result-in-Some-next_visit-2
-overflow_add-result-in-Some-next_visit-2 g t c =
-    let whole : leaf_count (tree_of c.in-Pre.producer.value) + leaf_count (tree_of c.in-Pre.consumer.value) < 2 ^ 32 = subst (λ (x : Tree). leaf_count x < 2 ^ 32) (ap tree_of c.in-Pre.is) c.requires.few in
-    let some = (c.in-Some-next_visit-2.ensures.steps.goes.0 []).exists in
-    omega (arith, whole, some, c.leaves-count.ensures, ap (λ b. leaf_count (tree_of b)) c.deref-in-Pre.ensures, ap (λ b. leaf_count (tree_of b)) c.deref-else-leaf-count.ensures)
+    omega (arith, c.requires.few, some, c.leaves.ensures)

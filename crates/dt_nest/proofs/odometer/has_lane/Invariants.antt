@@ -7,4 +7,4 @@ use Rattle.dt_nest.specs.Odometer.{guards_of}
 use Rattle.dt_nest.proofs.odometer.has_lane.Given as goal
 
 abbrev pub invariant-loop-x : goal.invariant-loop-x
-invariant-loop-x g l = (l.slots ≡ l.initial.slots) × (list_any (is_valid (g.T.Testing.tests l.tests) l.walk l.var (guards_of (tree_of l.body)) (pairs_in l.naming) l.slots) (range_with_len 0 l.x) ≡ false) × (length l.values ≡ length l.initial.values)
+invariant-loop-x g l = (l.slots ≡ l.initial.slots) × (list_any (is_valid (g.T.Testing.tests l.route.tests.now) l.head.walk.now l.head.var (guards_of (tree_of l.head.body.now)) (pairs_in l.route.naming.now) l.slots) (range_with_len 0 l.x) ≡ false) × (length l.values ≡ length l.initial.values)
