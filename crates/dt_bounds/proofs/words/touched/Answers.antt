@@ -34,5 +34,5 @@ returns-in-None g c =
     λ x. ap (λ v. contains v.items x) c.positions_of.ensures
     ∙ sym (none_left (contains c.loop-found.found.positions.items x) (nat_lt x (length (tensor_at (g.L.Locator.tensors c.args.loc.now) c.args.tensor).coords)))
     ∙ ap (λ (items : List Item). contains c.loop-found.found.positions.items x
-      || is_touched (world_of (g.L.Locator.tensors c.args.loc.now) c.args.sched.now) c.args.sched.now.derived (tensor_at (g.L.Locator.tensors c.args.loc.now) c.args.tensor) c.args.tensor items x) (sym c.in-None.ensures.goes.0)
+    || is_touched (world_of (g.L.Locator.tensors c.args.loc.now) c.args.sched.now) c.args.sched.now.derived (tensor_at (g.L.Locator.tensors c.args.loc.now) c.args.tensor) c.args.tensor items x) (sym c.in-None.ensures.goes.0)
     ∙ c.loop-found.invariant.members x
