@@ -4,6 +4,7 @@ use Rattle.std.specs.Prelude.{MatchOption, nat_eq, slice_set}
 use Rattle.std.specs.List.{AllByRecursion, filter, list_any, range_with_len}
 use Rattle.std.proofs.lemmas.List.Elements.{filter-append}
 use Rattle.std.proofs.lemmas.List.Folds.{list_any-append}
+use Rattle.std.proofs.Math.Bool.{or-false}
 use Rattle.dt_base.proofs.Ranges.{range_with_len-more}
 use Rattle.dt_model.specs.Positions.{StoredTensor, coords_at}
 use Rattle.dt_model.specs.declared.stmt.Access.{Access}
@@ -18,7 +19,6 @@ use Rattle.dt_nest.specs.Visits.{Lanes, Item, IsReset, IsVisit, slots_of, value_
 use Rattle.dt_nest.specs.Point.{visit_in, slots_with, env_in, env_at, valid_in, valid_of}
 use Rattle.dt_nest.specs.Run.{Run, AreAscending, AreValued, IsExtent, OnLanes, OnVisit, among, is_among, with_lane}
 use Rattle.dt_bounds.specs.Points.{AreValuedAt, IsVisitOf, accesses_in, is_lane_reached, is_reached, is_some_lane_reached, item_touches, last_touches}
-use Rattle.dt_bounds.proofs.Additions.{or_false}
 
 -- Values ---------------------------------------------------------------------------------------------------------------
 
@@ -69,7 +69,7 @@ lane_more r t tensor accesses n p =
     one k = go (q k)
       where
         go : (b : Bool) → list_any F (cond b (k ∷ []) []) ≡ (b && F k)
-        go true = or_false (F k)
+        go true = or-false (F k)
         go false = refl
 
 -- Touched positions ------------------------------------------------------------------------------------------------------
@@ -81,7 +81,7 @@ any_map F f (x ∷ xs) = ap (λ (b : Bool). F (f x) || b) (any_map F f xs)
 
 -- where no loop is substituted, the visit is its only point
 only_point : (F : Env → Bool) (V : List ℕ → Env) (slots : List ℕ) (lanes : Option Lanes) → ◌≡◌ {A = Option ℕ} None (option_map (λ (lanes : Lanes). lanes.extent) lanes) → F (V slots) ≡ list_any F (map V (slots_of slots lanes))
-only_point F V slots None e = sym (or_false (F (V slots)))
+only_point F V slots None e = sym (or-false (F (V slots)))
 only_point F V slots (Some lanes) e = absurd (cc)
 
 pub plain_touched : (r : Run) (t : StoredTensor) (tensor : ℕ) (lhs : Access) (terms : List Term) → IsVisitOf r lhs terms → IsExtent r None → (p : ℕ) → is_reached t tensor (env_at r None) (accesses_in lhs terms) p ≡ last_touches r t tensor p

@@ -5,7 +5,7 @@ use Rattle.std.specs.List.{AllByRecursion, flat_map, list_any}
 use Rattle.std.specs.Str.{bytes_eq}
 use Rattle.std.proofs.Math.Path.{fun_ext}
 use Rattle.std.proofs.Math.ListN.{length-set}
-use Rattle.std.proofs.lemmas.Bool.{eqb-true, eq-eqb, lt-ltb, and_from}
+use Rattle.std.proofs.lemmas.Bool.{eqb-true, eq-eqb, lt-ltb, and_from, or_left, or_right}
 use Rattle.std.proofs.lemmas.List.{length-replicate}
 use Rattle.std.proofs.lemmas.List.Quantifiers.{position-Some}
 use Rattle.std.proofs.lemmas.Slice.Eq.{bytes_eq-Decides}
@@ -25,20 +25,12 @@ use Rattle.dt_nest.specs.Lawful.{Loops, also, Follows, AllFollow, IsSubstituted,
 use Rattle.dt_nest.specs.Odometer.{HaveSlots}
 use Rattle.dt_nest.specs.Visits.{Scope, at_root, entered, in_producer, LeafNode, LeafVisit, Item, IsReset, IsVisit, value_in, tests_of, no_slots, with_reset, values_on, lane_visit, valid_values, substituted_visits, tree_visits, visits_of, environments, is_accessed, touches, needed_of}
 use Rattle.dt_nest.specs.Effects.{left_at}
-use Rattle.dt_nest.proofs.Agree.{known_agree}
+use Rattle.dt_nest.proofs.Agree.{known_agree, map_agree}
 use Rattle.dt_nest.proofs.Names.{renamed-append}
 use Rattle.dt_nest.proofs.OwnSlots.{have_slots}
 use Rattle.dt_nest.proofs.Additions.{set_env}
 use Rattle.dt_bounds.specs.NeededPaths.{IsNeededAt, AccessesNeeded, LeftNeeded, AccessesAreNeeded, LeftIsNeeded}
 use Rattle.dt_bounds.proofs.PathNeeds.{contains-needed}
-
-or_left : (a b : Bool) → a ≡ true → (a || b) ≡ true
-or_left true b e = refl
-or_left false b e = absurd (cc)
-
-or_right : (a b : Bool) → b ≡ true → (a || b) ≡ true
-or_right true b e = refl
-or_right false b e = e
 
 -- a test that an element passes is passed by some element
 abbrev pub IsFound : {X : Type 0} → List X → X → Type 0
@@ -87,11 +79,6 @@ pub accesses_needed : AccessesAreNeeded
 accesses_needed stored s p = all_map (IsFound (visits_of stored s p)) (AccessesNeeded stored s p) (item_needed stored s p) (visits_of stored s p) (each_found (visits_of stored s p))
 
 -- The left side ---------------------------------------------------------------------------------------------------------
-
--- equal values make equal lists
-pub map_agree : (P : ℕ → Type 0) (f g : ℕ → ℕ) → ((u : ℕ) → P u → f u ≡ g u) → (xs : List ℕ) → AllByRecursion P xs → map f xs ≡ map g xs
-map_agree P f g h [] e = refl
-map_agree P f g h (x ∷ xs) e = ap (λ (y : ℕ). y ∷ map f xs) (h x e.0) ∙ ap (λ (l : List ℕ). g x ∷ l) (map_agree P f g h xs e.1)
 
 module _ (w : World) (ds : List Derived) where
   -- an item touches where it adds

@@ -24,16 +24,16 @@ use Rattle.dt_nest.proofs.Inside.{StaysInside, stays_inside}
 use Rattle.dt_nest.specs.Odometer.{HaveSlots}
 use Rattle.dt_nest.specs.Visits.{Scope, at_root, entered, in_producer, LeafNode, Item, IsReset, IsVisit, value_in, tests_of, no_slots, with_reset, values_on, is_valid, lane_visit, valid_values, substituted_visits, tree_visits, visits_of, IsPathIn}
 use Rattle.dt_nest.specs.Effects.{left_at}
-use Rattle.dt_nest.proofs.Agree.{known_agree}
+use Rattle.dt_nest.proofs.Agree.{known_agree, map_agree}
 use Rattle.dt_nest.specs.Outputs.{output_of}
 use Rattle.dt_nest.specs.Unit.{word_of, written_by}
 use Rattle.dt_nest.proofs.Names.{renamed-append}
 use Rattle.dt_nest.proofs.OwnSlots.{have_slots, zero_at}
 use Rattle.dt_nest.proofs.Additions.{set_env}
 use Rattle.dt_bounds.specs.TaskUnits.{HasLeft, StoresAll, VisitsHaveLeft}
-use Rattle.dt_nest.proofs.PathVisits.{range-below}
-use Rattle.dt_bounds.proofs.PathAccesses.{map_agree}
 use Rattle.dt_bounds.proofs.PathTasks.{WritesOnly, path_writes}
+use Rattle.dt_base.proofs.Ranges.{range_with_len-below}
+use Rattle.dt_nest.proofs.NextSearches.{path_rest}
 
 mapped : (f : ℕ → ℕ) (o : Option ℕ) → is_some o ≡ true → is_some (option_map f o) ≡ true
 mapped f None e = e
@@ -50,12 +50,8 @@ row_some extents val (u ∷ vars) h = go (nat_lt (val u) (slice_index extents u)
 
 -- the values that a path lets a loop take are below its extent
 values_below : (v n : ℕ) (walk : Option Walk) (body : Tree) (path : List ℕ) → IsPathIn (Loop v n walk body) path → AllByRecursion (λ i. i < n) (values_on path n)
-values_below v n walk body [] h = subst (AllByRecursion (λ i. i < n)) (sym (range-below n)) (below_all n)
+values_below v n walk body [] h = subst (AllByRecursion (λ i. i < n)) (sym (range_with_len-below n)) (below_all n)
 values_below v n walk body (x ∷ path) h = (h.0, tt)
-
-path_rest : (v n : ℕ) (walk : Option Walk) (body : Tree) (path : List ℕ) → IsPathIn (Loop v n walk body) path → IsPathIn body (drop 1 path)
-path_rest v n walk body [] h = tt
-path_rest v n walk body (x ∷ path) h = h.2
 
 -- what passes a test and had a fact, with both
 passing : (P : ℕ → Type 0) (test : ℕ → Bool) (xs : List ℕ) → AllByRecursion P xs → AllByRecursion (λ x. P x × (test x ≡ true)) (filter test xs)
@@ -116,11 +112,11 @@ module _ (s : Schedule) (w : World) (extent_is : w.extent ≡ slice_index s.exte
   kernel_inside walk v n (Leaf lhs terms guards Dot) around scope slots k l a i f h q =
       lane_inside walk v n lhs (record { lhs = lhs; terms = terms; guards = guards; kernel = Dot }) guards around scope slots refl l a i.1 f.0.0
       (λ j m. moved_inside (Leaf lhs terms guards Dot) (also around v) scope slots v j l (h j m)) q.0 (valid_values (tests_of w ds) walk v n guards scope.pairs slots)
-      (passing (λ x. x < n) (is_valid (tests_of w ds) walk v guards scope.pairs slots) (range_with_len 0 n) (subst (AllByRecursion (λ i. i < n)) (sym (range-below n)) (below_all n)))
+      (passing (λ x. x < n) (is_valid (tests_of w ds) walk v guards scope.pairs slots) (range_with_len 0 n) (subst (AllByRecursion (λ i. i < n)) (sym (range_with_len-below n)) (below_all n)))
   kernel_inside walk v n (Leaf lhs terms guards Dot3) around scope slots k l a i f h q =
       lane_inside walk v n lhs (record { lhs = lhs; terms = terms; guards = guards; kernel = Dot3 }) guards around scope slots refl l a i.1 f.0.0
       (λ j m. moved_inside (Leaf lhs terms guards Dot3) (also around v) scope slots v j l (h j m)) q.0 (valid_values (tests_of w ds) walk v n guards scope.pairs slots)
-      (passing (λ x. x < n) (is_valid (tests_of w ds) walk v guards scope.pairs slots) (range_with_len 0 n) (subst (AllByRecursion (λ i. i < n)) (sym (range-below n)) (below_all n)))
+      (passing (λ x. x < n) (is_valid (tests_of w ds) walk v guards scope.pairs slots) (range_with_len 0 n) (subst (AllByRecursion (λ i. i < n)) (sym (range_with_len-below n)) (below_all n)))
 
   reset_inside : (work : ℕ) (items : List Item) → AllByRecursion LeftInside items → AllByRecursion LeftInside (with_reset work items)
   reset_inside work [] h = tt

@@ -1,6 +1,6 @@
 -- What is needed under a path.
 use Rattle.std.proofs.Common.{◌≡◌, ℕ, zero, suc, ◌<◌, Bool, true, false, ◌||◌, ◌&&◌, List, [], ◌∷◌, ◌++◌, length, refl, ap, sym, ◌∙◌, subst, arith, append-nil, filter}
-use Rattle.std.specs.Prelude.{if◌then◌else◌, nat_eq, nat_le, nat_lt, drop, take}
+use Rattle.std.specs.Prelude.{if◌then◌else◌, nat_eq, nat_lt, drop, take}
 use Rattle.std.specs.List.{flat_map, list_any}
 use Rattle.std.proofs.lemmas.Bool.{eqb-true}
 use Rattle.std.proofs.lemmas.List.Folds.{list_any-append}
@@ -11,15 +11,14 @@ use Rattle.dt_nest.specs.Tree.{Tree, Loop, Pre, Leaf}
 use Rattle.dt_nest.specs.Schedule.{Schedule}
 use Rattle.dt_nest.specs.World.{world_of}
 use Rattle.dt_nest.specs.Visits.{visits_of, touches, needed_of, IsPath, IsPathIn}
-use Rattle.dt_runs.proofs.SetLemmas.{contains-filter, contains-range}
-use Rattle.dt_runs.proofs.WholeBoxes.{range-below as runs_below}
-use Rattle.std.proofs.lemmas.Bool.Decides.{nat_tests}
+use Rattle.dt_runs.proofs.SetLemmas.{contains-filter}
 use Rattle.dt_nest.specs.Paths.{HasLoops, extent_inside, paths_of}
 use Rattle.dt_bounds.specs.NeededPaths.{NeededFollowsPaths, NeededShrinks, NeededFollowsVisited, FrontsNeedMore, NeededOverPaths}
 use Rattle.std.proofs.lemmas.List.{take-append-drop}
 use Rattle.dt_nest.proofs.PathFans.{visits_over}
 use Rattle.dt_nest.proofs.PathVisits.{visits_follow}
 use Rattle.dt_nest.proofs.PathUnions.{empty_of}
+use Rattle.dt_runs.proofs.BelowSets.{contains-below}
 
 -- some element of lists that are joined passes
 pub any_flat : {X Y : Type 0} (test : Y → Bool) (f : X → List Y) (xs : List X) → list_any test (flat_map f xs) ≡ list_any (λ i. list_any test (f i)) xs
@@ -36,13 +35,6 @@ pub any_and : {X : Type 0} (a : Bool) (f : X → Bool) (xs : List X) → (a && l
 any_and true f xs = refl
 any_and false f [] = refl
 any_and false f (x ∷ xs) = any_and false f xs
-
--- the numbers below n are those of the list
-pub contains-below : (n x : ℕ) → contains (below n) x ≡ nat_lt x n
-contains-below n x = ap (λ (l : List ℕ). contains l x) (sym (runs_below n)) ∙ contains-range 0 n x ∙ first (nat_lt x n) (nat_le 0 x) (grind (arith, nat_tests))
-  where
-    first : (b c : Bool) → c ≡ true → (c && b) ≡ b
-    first b c h = ap (λ (d : Bool). d && b) h
 
 -- whether a position is needed
 pub contains-needed : (stored : List StoredTensor) (s : Schedule) (t : ℕ) (p : List ℕ) (w : ℕ)

@@ -3,7 +3,7 @@ use Rattle.std.proofs.Common.{◌≡◌, ℕ, ◌+◌, ◌%◌, ◌^◌, ◌<◌
 use Rattle.std.specs.Prelude.{if◌then◌else◌, nat_eq, nat_lt}
 use Rattle.std.specs.List.{AllByRecursion, list_any}
 use Rattle.std.specs.Str.{bytes_eq}
-use Rattle.std.proofs.lemmas.Bool.{eqb-true, lt-ltb, ne_eqb}
+use Rattle.std.proofs.lemmas.Bool.{eqb-true, lt-ltb, ne_eqb, or_parts}
 use Rattle.std.proofs.lemmas.Slice.Eq.{bytes_eq-Decides}
 use Rattle.dt_model.specs.Positions.{coords_at, tensor_at}
 use Rattle.dt_nest.specs.declared.derivations.Derived.{Derived}
@@ -18,10 +18,6 @@ use Rattle.dt_nest.proofs.RootApart.{output_below}
 use Rattle.dt_bounds.proofs.PathNeeds.{contains-needed}
 use Rattle.dt_bounds.proofs.PathAccesses.{LeftTouched, path_left_touched}
 use Rattle.dt_nest.proofs.PathSums.{paths_add}
-
-or_parts : (a b : Bool) → (a || b) ≡ false → (a ≡ false) × (b ≡ false)
-or_parts true b e = absurd (cc)
-or_parts false b e = (refl, e)
 
 module _ (w : World) (ds : List Derived) (t : ℕ) (c : List ℕ) (below : t < w.tensors) where
   -- an item that doesn't touch a tensor at some coordinates leaves its number there

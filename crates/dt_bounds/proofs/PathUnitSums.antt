@@ -8,6 +8,7 @@ use Rattle.std.proofs.lemmas.Bool.{eqb-true, eq-eqb, lt-ltb}
 use Rattle.std.proofs.lemmas.List.Sums.{sum_by-cons}
 use Rattle.std.proofs.lemmas.Nat.{div-mul-add, mod-mul-add}
 use Rattle.std.proofs.lemmas.Slice.Eq.{bytes_eq-Decides}
+use Rattle.std.proofs.lemmas.Option.{same_Some}
 use Rattle.dt_base.specs.Rows.{product, row_major}
 use Rattle.dt_base.proofs.Rows.{row_major-below}
 use Rattle.dt_model.specs.Positions.{StoredTensor, place_in, tensor_at}
@@ -32,9 +33,6 @@ use Rattle.dt_bounds.proofs.PathAccesses.{accesses_needed, place_has}
 
 -- A word has one index -----------------------------------------------------------------------------------------------------
 
-some_same : (a b : ℕ) → Some a ≡ Some b → a ≡ b
-some_same a b e = ap (λ (o : Option ℕ). unwrap_or o 0) e
-
 -- indices with one row-major number are the same
 row_major-same : (ns c d : List ℕ) (k : ℕ) → row_major ns c ≡ Some k → row_major ns d ≡ Some k → c ≡ d
 row_major-same [] [] [] k e f = refl
@@ -54,7 +52,7 @@ row_major-same (n ∷ ns) (x ∷ c) (y ∷ d) k e f = go (nat_lt x n) (nat_lt y 
         → (if a then option_map (λ k. x * product ns + k) o else None) ≡ Some k → (if b then option_map (λ k. y * product ns + k) r else None) ≡ Some k
         → ((j : ℕ) → row_major ns c ≡ Some j → row_major ns d ≡ Some j → c ≡ d) → x ∷ c ≡ y ∷ d
     go true true (Some i) g (Some j) h e f r =
-        let both : x * product ns + i ≡ y * product ns + j = some_same (x * product ns + i) k e ∙ sym (some_same (y * product ns + j) k f) in
+        let both : x * product ns + i ≡ y * product ns + j = same_Some (x * product ns + i) k e ∙ sym (same_Some (y * product ns + j) k f) in
         let parts = pair i j (row_major-below ns c i g) (row_major-below ns d j h) both in
         ap (λ (a : ℕ). a ∷ c) parts.0 ∙ ap (λ (l : List ℕ). y ∷ l) (r i g (h ∙ ap Some (sym parts.1)))
     go true true (Some i) g None h e f r = absurd (cc)
@@ -136,7 +134,7 @@ module _ (stored : List StoredTensor) (s : Schedule) (p : List ℕ) (state : Sta
           same i l = word_same stored s t left c k here (subst (λ (v : ℕ). word_of stored s v c ≡ Some k) i (e ∙ ap Some l))
 
           back : u ≡ t → left ≡ c → j ≡ k
-          back i l = some_same j k (sym e ∙ ap (λ (v : ℕ). word_of stored s v c) i ∙ ap (word_of stored s t) (sym l) ∙ here)
+          back i l = same_Some j k (sym e ∙ ap (λ (v : ℕ). word_of stored s v c) i ∙ ap (word_of stored s t) (sym l) ∙ here)
 
           go : (a : Bool) → (a ≡ true → u ≡ t) → (b : Bool) → (b ≡ true → j ≡ k) → (j ≡ k → b ≡ true) → (q : Bool) → (q ≡ true → left ≡ c) → (left ≡ c → q ≡ true) → state (Word u j) ≡ Some (x u c)
               → (if a && b then option_map (λ z. (z + d) % 2 ^ 64) (state (Word u j)) else state (Word u j)) ≡ Some (if a && q then (x u c + d) % 2 ^ 64 else x u c)

@@ -7,6 +7,7 @@ use Rattle.std.proofs.lemmas.Bool.{eqb-true, eq-eqb, lt-ltb, ltb-true, and_from}
 use Rattle.std.proofs.lemmas.Bool.Decides.{nat_tests}
 use Rattle.std.proofs.lemmas.Slice.Eq.{bytes_eq-Decides}
 use Rattle.std.proofs.lemmas.List.Sums.{count_by-le-length, length-filter}
+use Rattle.std.proofs.Math.Bool.{or-false}
 use Rattle.dt_base.specs.Ranges.{below, assignments}
 use Rattle.dt_base.specs.Rows.{product}
 use Rattle.dt_model.specs.Positions.{StoredTensor, IsStored, is_followed, coords_at, place_in}
@@ -22,7 +23,6 @@ use Rattle.dt_nest.specs.Meaning.{Env}
 use Rattle.dt_base.proofs.Assignments.{length-assignments}
 use Rattle.dt_bounds.specs.Found.{is_at}
 use Rattle.dt_bounds.specs.Points.{is_reached}
-use Rattle.dt_bounds.proofs.Additions.{or_false}
 
 -- tests that pass together are the same
 pub same_tests : (a b : Bool) → (a ≡ true → b ≡ true) → (b ≡ true → a ≡ true) → a ≡ b
@@ -114,7 +114,7 @@ access-place t s tensor val a c o n e p x =
     ∙ agree_below x (length t.coords) (bytes_eq c (coords_at t x)) (is_reached t tensor val (a ∷ []) x)
     (λ l.
     ap (λ (d : List ℕ). bytes_eq d (coords_at t x)) (e ∙ sym (map-twice (λ y. min y 4294967295) val a.vars)) ∙ clipped-same (map val a.vars) (coords_at t x) (coords_few t s x l)
-    ∙ sym (ap (λ (b : Bool). b && bytes_eq (map val a.vars) (coords_at t x) || false) (eq-eqb a.tensor tensor n) ∙ or_false (bytes_eq (map val a.vars) (coords_at t x))))
+    ∙ sym (ap (λ (b : Bool). b && bytes_eq (map val a.vars) (coords_at t x) || false) (eq-eqb a.tensor tensor n) ∙ or-false (bytes_eq (map val a.vars) (coords_at t x))))
   where
     map-twice : (f g : ℕ → ℕ) (us : List ℕ) → map f (map g us) ≡ map (λ u. f (g u)) us
     map-twice f g [] = refl

@@ -16,11 +16,11 @@ bare (Loop v n walk body) = bare body
 bare (Pre work pairs p q) = Pre work pairs (bare p) (bare q)
 bare (Leaf lhs terms guards kernel) = Leaf lhs terms [] kernel
 
-bare_around : (hs : List Head) (tree : Tree) → bare (loops_around hs tree) ≡ bare tree
+pub bare_around : (hs : List Head) (tree : Tree) → bare (loops_around hs tree) ≡ bare tree
 bare_around [] tree = refl
 bare_around (h ∷ hs) tree = bare_around hs tree
 
-bare_without : (k : ℕ) (tree : Tree) → bare (without_loops k tree) ≡ bare tree
+pub bare_without : (k : ℕ) (tree : Tree) → bare (without_loops k tree) ≡ bare tree
 bare_without zero tree = refl
 bare_without (suc k) (Loop v n walk body) = bare_without k body
 bare_without (suc k) (Pre work pairs p q) = refl
@@ -30,7 +30,7 @@ bare_without (suc k) (Leaf lhs terms guards kernel) = refl
 bare_branches : (work : ℕ) (pairs : List Pair) (p q p2 q2 : Tree) → bare p2 ≡ bare p → bare q2 ≡ bare q → bare (Pre work pairs p2 q2) ≡ bare (Pre work pairs p q)
 bare_branches work pairs p q p2 q2 e f = ap (λ (t : Tree). Pre work pairs t (bare q2)) e ∙ ap (λ (t : Tree). Pre work pairs (bare p) t) f
 
-bare_guarded : (gs : List ℕ) (tree : Tree) → bare (guarded gs tree) ≡ bare tree
+pub bare_guarded : (gs : List ℕ) (tree : Tree) → bare (guarded gs tree) ≡ bare tree
 bare_guarded gs (Loop v n walk body) = bare_guarded gs body
 bare_guarded gs (Pre work pairs p q) = bare_branches work pairs p q (guarded gs p) (guarded gs q) (bare_guarded gs p) (bare_guarded gs q)
 bare_guarded gs (Leaf lhs terms guards kernel) = refl

@@ -2,7 +2,7 @@
 use Rattle.std.proofs.Common.{◌≡◌, ℕ, zero, suc, ◌+◌, ◌≤◌, Bool, true, false, ◌||◌, List, [], ◌∷◌, length, map, Option, refl, sym, ap, ◌∙◌, subst, arith}
 use Rattle.std.specs.Prelude.{if◌then◌else◌, MatchBool, nat_eq}
 use Rattle.std.specs.List.{AllByRecursion, IsDistinct}
-use Rattle.std.proofs.lemmas.Bool.{eqb-true, eq-eqb, ne_eqb}
+use Rattle.std.proofs.lemmas.Bool.{eqb-true, eq-eqb, ne_eqb, or_parts}
 use Rattle.dt_nest.specs.declared.loops.Walk.{Walk}
 use Rattle.dt_nest.specs.declared.derivations.Derived.{Derived}
 use Rattle.dt_cuts.specs.declared.cuts.Head.{Head}
@@ -12,7 +12,7 @@ use Rattle.dt_nest.specs.Schedule.{Schedule}
 use Rattle.dt_cuts.specs.Place.{at_loop, loops_around, without_loops, guarded}
 use Rattle.dt_nest.specs.Lawful.{IsNamed, is_replaced, AreLoops, Loops, also, nodes_with, WorksStand}
 use Rattle.dt_cuts.specs.Cutting.{cut_tree, is_head, BeginsWith, HoldsAt}
-use Rattle.dt_nest.proofs.Truth.{or_neither, or_either}
+use Rattle.dt_nest.proofs.Truth.{or_either}
 
 -- Sums over loops -----------------------------------------------------------------------------------------------------
 
@@ -134,7 +134,7 @@ head_times (h ∷ hs) u i = go (nat_eq u h.var) (eqb-true u h.var) i (head_times
 pub no_head_times : (hs : List Head) (u : ℕ) → is_head hs u ≡ false → head_sum (one_at u) hs ≡ 0
 no_head_times [] u h = refl
 no_head_times (h ∷ hs) u i =
-    let o = or_neither (nat_eq u h.var) (is_head hs u) i in
+    let o = or_parts (nat_eq u h.var) (is_head hs u) i in
     let a = no_head_times hs u o.1 in
     let e : nat_eq h.var u ≡ false = ne_eqb h.var u (λ q. let t : nat_eq u h.var ≡ true = eq-eqb u h.var (sym q) in let f = o.0 in absurd (cc)) in
     let b : ◌≡◌ {A = ℕ} (if nat_eq h.var u then 1 else 0) 0 = ap (λ (t : Bool). let one : ℕ = 1 in if t then one else 0) e in omega (arith, a, b)

@@ -6,11 +6,13 @@ use Rattle.std.proofs.lemmas.Bool.{eqb-true, eq-eqb, or_left, or_right, le-leb, 
 use Rattle.dt_nest.specs.Meaning.{Env, bind}
 use Rattle.dt_nest.specs.Lawful.{Loops}
 use Rattle.dt_nest.specs.Questions.{is_in}
+use Rattle.dt_nest.proofs.Truth.{any_with}
+use Rattle.dt_cuts.specs.declared.cuts.Head.{Head}
+use Rattle.dt_cuts.specs.Cutting.{is_head}
 
--- two facts of each element of a list
-pub all_both : {X : Type 0} (P Q : X → Type 0) (xs : List X) → AllByRecursion P xs → AllByRecursion Q xs → AllByRecursion (λ x. P x × Q x) xs
-all_both P Q [] p q = tt
-all_both P Q (x ∷ xs) p q = ((p.0, q.0), all_both P Q xs p.1 q.1)
+-- a fact of each of these loops
+pub head_fact : (P : ℕ → Type 0) (hs : List Head) → AllByRecursion (λ (h : Head). P h.var) hs → (u : ℕ) → is_head hs u ≡ true → P u
+head_fact P hs all u h = any_with (P u) (λ (x : Head). nat_eq u x.var) (λ x. P x.var) (λ x e p. subst P (sym (eqb-true u x.var e)) p) hs h all
 
 -- Numbers of loops --------------------------------------------------------------------------------------------------------
 

@@ -20,6 +20,7 @@ use Rattle.dt_cuts.proofs.Push.{nest_push}
 use Rattle.dt_cuts.proofs.Clear.{IsOwn, AreOwn, clear_of, clear_guarded}
 use Rattle.dt_cuts.proofs.GuardLaw.{nest_guarded}
 use Rattle.dt_cuts.proofs.Standing.{Stands, stands_below}
+use Rattle.dt_cuts.proofs.CutFacts.{head_fact}
 
 -- the set with these loops
 abbrev pub also_heads : Loops → List Head → Loops
@@ -34,15 +35,6 @@ abbrev pub CutsAt : Cut → Tree → Loops → Type 0
 CutsAt c tree around = BeginsWith c.old tree × NameLoops c.heads c.derived around
 
 -- Loops in a row -----------------------------------------------------------------------------------------------------------
-
--- what holds of each of these loops holds of a number that is one of them
-pub head_fact : (P : ℕ → Type 0) (hs : List Head) → AllByRecursion (λ (h : Head). P h.var) hs → (u : ℕ) → is_head hs u ≡ true → P u
-head_fact P [] all u e = absurd (cc)
-head_fact P (h ∷ hs) all u e = go (nat_eq u h.var) (eqb-true u h.var) e (λ e. head_fact P hs all.1 u e)
-  where
-    go : (b : Bool) → (b ≡ true → u ≡ h.var) → (b || is_head hs u) ≡ true → (is_head hs u ≡ true → P u) → P u
-    go true q e r = subst P (sym (q refl)) all.0
-    go false q e r = r e
 
 -- equal functions have equal sums
 pub sum_over_same : (hs : List Head) (f g : Env → ℕ) (env : Env) → ((e : Env) → f e ≡ g e) → sum_over hs f env ≡ sum_over hs g env

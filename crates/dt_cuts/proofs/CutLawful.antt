@@ -2,7 +2,7 @@
 use Rattle.std.proofs.Common.{◌≡◌, ℕ, ◌+◌, ◌<◌, ◌≤◌, ◌^◌, Bool, true, false, ◌||◌, List, [], ◌∷◌, ◌++◌, length, refl, sym, ap, ◌∙◌, subst, arith, append-nil, length-append}
 use Rattle.std.specs.Prelude.{MatchBool, nat_eq, nat_le, slice_index}
 use Rattle.std.specs.List.{AllByRecursion, list_any}
-use Rattle.std.proofs.lemmas.Bool.{eqb-true, leb-true}
+use Rattle.std.proofs.lemmas.Bool.{eqb-true, leb-true, or_from}
 use Rattle.std.proofs.lemmas.List.{get_or_append_left}
 use Rattle.dt_nest.specs.declared.derivations.Derived.{Derived}
 use Rattle.dt_nest.specs.declared.parts.Moved.{Moved}
@@ -14,9 +14,9 @@ use Rattle.dt_nest.specs.Tree.{Tree, Loop, Pre, Leaf, loop_count, leaf_count, ti
 use Rattle.dt_nest.specs.Schedule.{Schedule}
 use Rattle.dt_cuts.specs.Place.{loops_around, without_loops, guarded}
 use Rattle.dt_nest.specs.Questions.{is_among}
-use Rattle.dt_nest.specs.Lawful.{HasNames, IsNamed, sources, is_replaced, IsBounded, AreNamed, AreOrdered, AreLoops, Loops, also, AllFollow, HaveGuards, HaveKernels, AreDistributed, IsCommunicate, AreCommunicated, nodes_with, WorksStand, WorkAccess, AreWorks, IsLawful}
+use Rattle.dt_nest.specs.Lawful.{HasNames, IsNamed, CoordinateAppears, sources, is_replaced, IsBounded, AreNamed, AreOrdered, AreLoops, Loops, also, AllFollow, HaveGuards, HaveKernels, AreDistributed, IsCommunicate, AreCommunicated, nodes_with, WorksStand, WorkAccess, AreWorks, IsLawful}
 use Rattle.dt_cuts.specs.Cutting.{cut_tree, cut_by, is_head, BeginsWith, HoldsAt, NameLoops, IsNewHead, IsCut}
-use Rattle.dt_nest.proofs.Truth.{or_either, neither_or, below_or_past, all_and, any_with, any_none}
+use Rattle.dt_nest.proofs.Truth.{or_either, below_or_past, all_and, any_with, any_none}
 use Rattle.dt_nest.proofs.Leads.{also_either, past_replaced, replaced_append, Stands, stands_first, named_vars}
 use Rattle.dt_cuts.proofs.Staying.{covers_none}
 use Rattle.dt_cuts.proofs.Extending.{Extends, named_more, derived_more, work_access_more, named_guarded, past_append, ordered_append}
@@ -24,8 +24,10 @@ use Rattle.dt_nest.proofs.NamedAccesses.{named_accesses}
 use Rattle.dt_nest.specs.Outputs.{WritesWorks}
 use Rattle.dt_cuts.proofs.CutCounts.{loop_sum, head_sum, one_at, times_sum, count_sum, head_count, times_has, times_past, loops_by_times, times_of_loops, head_times, no_head_times, distinct_times, holds_map, BeginAt, loop_after, sum_cut}
 use Rattle.dt_cuts.proofs.Bare.{bare, bare_cut, leaves_bare, accesses_cut, nodes_bare, stand_bare, bare_stand, bare_written, written_bare}
-use Rattle.dt_cuts.proofs.CutPlace.{Exchanges, head_fact}
+use Rattle.dt_cuts.proofs.CutWalks.{walks_cut}
+use Rattle.dt_cuts.proofs.CutPlace.{Exchanges}
 use Rattle.dt_cuts.proofs.CutParts.{kernel_cut, distributed_cut, communicate_cut, IsFit, follows_cut, guards_cut, kernels_cut}
+use Rattle.dt_cuts.proofs.CutFacts.{head_fact}
 
 -- Names ---------------------------------------------------------------------------------------------------------------
 
@@ -104,7 +106,7 @@ moved_stay moved [] h = each moved
     each [] = tt
     each (m ∷ ms) = (refl, each ms)
 moved_stay moved (x ∷ hs) h =
-    all_map (λ (m : Moved). (nat_eq m.at x.var ≡ false) × (is_head hs m.at ≡ false)) (λ m. is_head (x ∷ hs) m.at ≡ false) (λ m p. neither_or (nat_eq m.at x.var) (is_head hs m.at) p.0 p.1) moved
+    all_map (λ (m : Moved). (nat_eq m.at x.var ≡ false) × (is_head hs m.at ≡ false)) (λ m. is_head (x ∷ hs) m.at ≡ false) (λ m p. or_from (nat_eq m.at x.var) (is_head hs m.at) p.0 p.1) moved
     (all_and (λ (m : Moved). nat_eq m.at x.var ≡ false) (λ m. is_head hs m.at ≡ false) moved (any_none (λ (m : Moved). nat_eq m.at x.var) moved h.0) (moved_stay moved hs h.1))
 
 -- the cut with these parts
@@ -298,6 +300,9 @@ module _ (s : Schedule) (h : Head) (hs heads : List Head) (gs : List ℕ) (new :
     differ = differ_after;
     names = names_cut s this l.names k few;
     named = named_after;
+    walks = walks_cut (h ∷ hs) heads gs s.nest l.walks;
+    coordinates = subst (λ (xs : List Access). AllByRecursion (λ d. CoordinateAppears xs d.var d.how) (s.derived ++ new)) (sym same_accesses)
+        (all_append (λ (d : Derived). CoordinateAppears (accesses_of s.nest) d.var d.how) s.derived new l.coordinates k.coordinates);
     derived = derived_cut s this l k;
     ordered = ordered_after;
     loops = loops_after;
@@ -317,6 +322,8 @@ lawful_kept s heads gs new names extents l k few = record {
   differ = l.differ;
   names = names_cut s (cut_of [] heads gs new names extents) l.names k few;
   named = named_more s (cut_by (cut_of [] heads gs new names extents) s) more s.nest l.named;
+  walks = l.walks;
+  coordinates = subst (λ (ds : List Derived). AllByRecursion (λ d. CoordinateAppears (accesses_of s.nest) d.var d.how) ds) same l.coordinates;
   derived = derived_cut s (cut_of [] heads gs new names extents) l k;
   ordered = subst AreOrdered same l.ordered;
   loops = subst (λ (ds : List Derived). AreLoops ds s.nest) same l.loops;

@@ -3,6 +3,7 @@ use Rattle.std.proofs.Common.{◌≡◌, ◌⊎◌, ℕ, zero, suc, Bool, true, 
 use Rattle.std.proofs.lemmas.List.{length-append}
 use Rattle.std.specs.Prelude.{if◌then◌else◌, nat_eq}
 use Rattle.std.specs.List.{AllByRecursion}
+use Rattle.std.proofs.lemmas.Bool.{or_parts}
 use Rattle.dt_model.specs.Positions.{StoredTensor}
 use Rattle.dt_model.specs.declared.cause.Cause.{Cause}
 use Rattle.dt_nest.specs.declared.loops.Walk.{Walk}
@@ -14,20 +15,19 @@ use Rattle.dt_nest.specs.Grid.{outer_extents, IsOnGrid}
 use Rattle.dt_nest.specs.Commands.{KeepsSum, Keeps}
 use Rattle.dt_nest.specs.Lawful.{IsLawful}
 use Rattle.dt_nest.proofs.KeptAccesses.{accesses_stay}
-use Rattle.dt_nest.proofs.Truth.{or_neither}
 use Rattle.dt_cuts.specs.declared.cuts.Head.{Head}
 use Rattle.dt_cuts.specs.declared.cuts.Cut.{Cut}
 use Rattle.dt_cuts.specs.Place.{at_loop}
 use Rattle.dt_cuts.specs.Cutting.{cut_tree, cut_by, cut_rule, AreFree, IsCut}
 use Rattle.dt_cuts.proofs.Bare.{accesses_cut, reads_cut, output_cut}
 use Rattle.dt_cuts.proofs.CutLawful.{cut_lawful}
-use Rattle.dt_cuts.proofs.CutStored.{cut_fits_stored}
+use Rattle.dt_cuts.proofs.Fitting.{cut_fits_stored}
 
 -- a change at a loop that isn't among the first k keeps their extents
 outer_at_loop : (k v : ℕ) (change : ℕ → Option Walk → Tree → Tree) (tree : Tree) → is_among k v tree ≡ false → outer_extents k (at_loop v change tree) ≡ outer_extents k tree
 outer_at_loop zero v change tree e = refl
 outer_at_loop (suc k) v change (Loop u n walk body) e =
-    let o = or_neither (nat_eq u v) (is_among k v body) e in
+    let o = or_parts (nat_eq u v) (is_among k v body) e in
     ap (λ (b : Bool). outer_extents (suc k) (if b then change n walk body else Loop u n walk (at_loop v change body))) o.0
     ∙ ap (λ (ns : List ℕ). n ∷ ns) (outer_at_loop k v change body o.1)
 outer_at_loop (suc k) v change (Pre work pairs p q) e = refl
@@ -44,7 +44,7 @@ on_grid s c k dims (inr e) = inr (outer_cut s c.old c.heads c.guards k.free ∙ 
 
 -- a lawful cut that keeps the sum owes nothing more, if what it derives fits the tensors that suit it
 pub cut_owes : (can : Schedule → Type 0) (cause : Schedule → Option Cause) (cut : Schedule → Cut) (suits : List StoredTensor → Schedule → Type 0) (s : Schedule) → IsLawful s → IsCut s (cut s)
-    → ((stored : List StoredTensor) → suits stored s → AllByRecursion (λ d. FitsDerive stored (cut_by (cut s) s) d.var d.how) (cut s).derived)
+    → ((stored : List StoredTensor) → suits stored s → AllByRecursion (λ d. FitsDerive stored (cut_by (cut s) s) d.how) (cut s).derived)
     → KeepsSum s (cut_by (cut s) s) → Keeps (cut_rule can cause cut suits) s
 cut_owes can cause cut suits s l k fit sum =
     let c = cut s in

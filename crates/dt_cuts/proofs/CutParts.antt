@@ -2,7 +2,7 @@
 use Rattle.std.proofs.Common.{◌≡◌, ℕ, zero, suc, ◌-◌, ◌≤◌, Bool, true, false, List, [], ◌∷◌, ◌++◌, length, Option, None, refl, sym, ◌∙◌, subst, arith, append-nil}
 use Rattle.std.specs.Prelude.{MatchBool, nat_eq}
 use Rattle.std.specs.List.{AllByRecursion}
-use Rattle.std.proofs.lemmas.Bool.{eq-eqb, ne_eqb}
+use Rattle.std.proofs.lemmas.Bool.{eq-eqb, ne_eqb, or_parts}
 use Rattle.dt_nest.specs.declared.loops.Walk.{Walk}
 use Rattle.dt_nest.specs.declared.loops.Pair.{Pair}
 use Rattle.dt_nest.specs.declared.loops.Kernel.TheVariants.{Plain, Dot, Dot3}
@@ -15,7 +15,6 @@ use Rattle.dt_cuts.specs.Place.{loops_around, without_loops, guarded}
 use Rattle.dt_nest.specs.Questions.{is_among}
 use Rattle.dt_nest.specs.Lawful.{IsNamed, AreNamed, is_replaced, AreLoops, Loops, also, AllFollow, AreGuarded, HaveGuards, IsSubstituted, HaveKernels, IsPlain, AreDistributed, IsCommunicate}
 use Rattle.dt_cuts.specs.Cutting.{cut_tree, is_head, BeginsWith, HoldsAt, NameLoops}
-use Rattle.dt_nest.proofs.Truth.{or_neither}
 use Rattle.dt_nest.proofs.Leads.{Stands, stands_also, stands_under}
 use Rattle.dt_cuts.proofs.Staying.{Covers, covers_also, IsWell, guarded_kernel, keeps_on, walk_on, accesses_on, vars_on, guarded_on, follows_stay, guards_stay, kernels_stay}
 use Rattle.dt_cuts.proofs.CutCounts.{holds_map, BeginAt, in_place, loop_after}
@@ -39,7 +38,7 @@ module _ (h : Head) (hs heads : List Head) (gs : List ℕ) where
   pub distributed_cut : (k : ℕ) (tree : Tree) (a : Loops) → BeginAt h hs tree a → is_among k h.var tree ≡ false → AreDistributed k tree → AreDistributed k (cut_tree (h ∷ hs) heads gs tree)
   distributed_cut zero tree a at among d = tt
   distributed_cut (suc k) (Loop u n walk body) a at among d =
-      let o = or_neither (nat_eq u h.var) (is_among k h.var body) among in
+      let o = or_parts (nat_eq u h.var) (is_among k h.var body) among in
       go (nat_eq u h.var) o.0 at (λ at. distributed_cut k body (also a u) at o.1 d.1)
     where
       go : (t : Bool) → t ≡ false → MatchBool t (BeginsWith (h ∷ hs) (Loop u n walk body)) (BeginAt h hs body (also a u))
@@ -54,7 +53,7 @@ module _ (h : Head) (hs heads : List Head) (gs : List ℕ) where
 communicate_gone : (m : ℕ) (hs : List Head) (tree : Tree) → BeginsWith hs tree → is_head hs m ≡ false → IsCommunicate 0 m tree → IsCommunicate 0 m (without_loops (length hs) tree)
 communicate_gone m [] tree b i c = c
 communicate_gone m (h ∷ hs) (Loop v n walk body) b i c =
-    let o = or_neither (nat_eq m h.var) (is_head hs m) i in
+    let o = or_parts (nat_eq m h.var) (is_head hs m) i in
     communicate_gone m hs body b.3 o.1 (go (nat_eq v m) (ne_eqb v m (λ e. let t : nat_eq m h.var ≡ true = eq-eqb m h.var (sym e ∙ b.0) in let f = o.0 in absurd (cc))) c)
   where
     go : (t : Bool) → t ≡ false → MatchBool t ((0 ≤ 1) × IsPlain walk body) (IsCommunicate 0 m body) → IsCommunicate 0 m body
@@ -83,11 +82,11 @@ communicate_heads m (h ∷ hs) tree plain c = go (nat_eq h.var m) (communicate_h
 module _ (h : Head) (hs heads : List Head) (gs : List ℕ) (m : ℕ) (other : is_head (h ∷ hs) m ≡ false) where
   among_less : (k u n : ℕ) (walk : Option Walk) (body : Tree) → is_among k h.var (Loop u n walk body) ≡ false → is_among (k - 1) h.var body ≡ false
   among_less zero u n walk body e = refl
-  among_less (suc k) u n walk body e = let less : k ≡ suc k - 1 = omega arith in subst (λ (z : ℕ). is_among z h.var body ≡ false) less (or_neither (nat_eq u h.var) (is_among k h.var body) e).1
+  among_less (suc k) u n walk body e = let less : k ≡ suc k - 1 = omega arith in subst (λ (z : ℕ). is_among z h.var body ≡ false) less (or_parts (nat_eq u h.var) (is_among k h.var body) e).1
 
   no_more : (k u n : ℕ) (walk : Option Walk) (body : Tree) → nat_eq u h.var ≡ true → is_among k h.var (Loop u n walk body) ≡ false → k ≡ 0
   no_more zero u n walk body e f = refl
-  no_more (suc k) u n walk body e f = let o = or_neither (nat_eq u h.var) (is_among k h.var body) f in let g = o.0 in absurd (cc)
+  no_more (suc k) u n walk body e f = let o = or_parts (nat_eq u h.var) (is_among k h.var body) f in let g = o.0 in absurd (cc)
 
   -- a communicate loop that doesn't go stays one
   pub communicate_cut : (k : ℕ) (tree : Tree) (a : Loops) → BeginAt h hs tree a → is_among k h.var tree ≡ false → IsCommunicate k m tree → IsCommunicate k m (cut_tree (h ∷ hs) heads gs tree)

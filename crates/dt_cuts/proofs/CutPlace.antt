@@ -2,7 +2,7 @@
 use Rattle.std.proofs.Common.{◌≡◌, ℕ, ◌<◌, ◌≤◌, Bool, true, false, ◌||◌, ◌&&◌, List, [], ◌∷◌, length, map, refl, sym, ap, ◌∙◌, subst, arith}
 use Rattle.std.specs.Prelude.{not, nat_eq, nat_le}
 use Rattle.std.specs.List.{AllByRecursion, IsDistinct, list_any}
-use Rattle.std.proofs.lemmas.Bool.{eqb-true, eq-eqb, ne_eqb, leb-true}
+use Rattle.std.proofs.lemmas.Bool.{eq-eqb, ne_eqb, leb-true, or_left, or_right, or_parts, or_from}
 use Rattle.dt_nest.specs.declared.loops.Kernel.TheVariants.{Plain, Dot, Dot3}
 use Rattle.dt_nest.specs.declared.derivations.Derived.{Derived}
 use Rattle.dt_cuts.specs.declared.cuts.Head.{Head}
@@ -13,9 +13,10 @@ use Rattle.dt_nest.specs.Meaning.{Env}
 use Rattle.dt_cuts.specs.Place.{loops_around, without_loops, guarded}
 use Rattle.dt_nest.specs.Lawful.{IsNamed, sources, is_replaced, AreLoops, Loops, also, AllFollow, is_split, HaveGuards, IsSubstituted, HaveKernels}
 use Rattle.dt_cuts.specs.Cutting.{is_head, BeginsWith, NameLoops}
-use Rattle.dt_nest.proofs.Truth.{or_first, or_second, or_neither, or_either, neither_or, all_and, any_with, none_any}
+use Rattle.dt_nest.proofs.Truth.{or_either, all_and, none_any}
 use Rattle.dt_nest.proofs.Leads.{Leads, Stands}
 use Rattle.dt_cuts.proofs.Staying.{Covers}
+use Rattle.dt_cuts.proofs.CutFacts.{head_fact}
 
 -- Some loops go, others come and so do guards: what goes comes again or is replaced, and nothing else is; what comes went or
 -- is new; each split has its guard.
@@ -45,14 +46,10 @@ pub loops_of_either : (R : Type 0) (hs : List Head) (a : Loops) (u : ℕ) → lo
 loops_of_either R hs a u h f g = or_either R (is_head hs u) (a u) (sym (loops_of_is hs a u) ∙ h) f g
 
 pub loops_of_head : (hs : List Head) (a : Loops) (u : ℕ) → is_head hs u ≡ true → loops_of hs a u ≡ true
-loops_of_head hs a u h = loops_of_is hs a u ∙ or_first (is_head hs u) (a u) h
+loops_of_head hs a u h = loops_of_is hs a u ∙ or_left (is_head hs u) (a u) h
 
 pub loops_of_around : (hs : List Head) (a : Loops) (u : ℕ) → a u ≡ true → loops_of hs a u ≡ true
-loops_of_around hs a u h = loops_of_is hs a u ∙ or_second (is_head hs u) (a u) h
-
--- a fact of each of these loops
-pub head_fact : (P : ℕ → Type 0) (hs : List Head) → AllByRecursion (λ (h : Head). P h.var) hs → (u : ℕ) → is_head hs u ≡ true → P u
-head_fact P hs all u h = any_with (P u) (λ (x : Head). nat_eq u x.var) (λ x. P x.var) (λ x e p. subst P (sym (eqb-true u x.var e)) p) hs h all
+loops_of_around hs a u h = loops_of_is hs a u ∙ or_right (is_head hs u) (a u) h
 
 -- Below the loops that go ---------------------------------------------------------------------------------------------
 
@@ -68,7 +65,7 @@ module _ (s : Schedule) (name : Env) where
       let r = below_gone hs body (also a v) b.3 m.3 l.1 f.3 in (
         (
           subst (λ (z : ℕ). IsGone a z) b.0 (m.0, f.1, l.0, f.0),
-          all_map (λ (x : Head). IsGone (also a v) x.var) (λ x. IsGone a x.var) (λ x g. (g.0, g.1, g.2, (or_neither (nat_eq x.var v) (a x.var) g.3).1)) hs r.0,
+          all_map (λ (x : Head). IsGone (also a v) x.var) (λ x. IsGone a x.var) (λ x g. (g.0, g.1, g.2, (or_parts (nat_eq x.var v) (a x.var) g.3).1)) hs r.0,
         ),
         r.1,
         r.2,
@@ -127,7 +124,7 @@ follows_heads ds name tree (h ∷ hs) a c d f = (
   tt,
   follows_heads ds name tree hs (also a h.var)
       (all_map (λ (x : Head). ((a x.var ≡ false) × (name x.var ≡ x.var)) × (nat_eq h.var x.var ≡ false)) (λ x. (also a h.var x.var ≡ false) × (name x.var ≡ x.var))
-      (λ x p. (neither_or (nat_eq x.var h.var) (a x.var) (ne_eqb x.var h.var (λ e. let t : nat_eq h.var x.var ≡ true = eq-eqb h.var x.var (sym e) in let f = p.1 in absurd (cc))) p.0.0, p.0.1))
+      (λ x p. (or_from (nat_eq x.var h.var) (a x.var) (ne_eqb x.var h.var (λ e. let t : nat_eq h.var x.var ≡ true = eq-eqb h.var x.var (sym e) in let f = p.1 in absurd (cc))) p.0.0, p.0.1))
       hs (all_and (λ (x : Head). (a x.var ≡ false) × (name x.var ≡ x.var)) (λ x. nat_eq h.var x.var ≡ false) hs c.1 (all_heads (λ y. nat_eq h.var y ≡ false) hs d.0)))
       d.1 f,
 )

@@ -8,7 +8,7 @@ pub mod CutLawful
 pub mod CutOwes
 pub mod CutParts
 pub mod CutPlace
-pub mod CutStored
+pub mod CutWalks
 pub mod Extending
 pub mod Extents
 pub mod Fitting

@@ -56,7 +56,7 @@ plain_absent v (Pre work pairs producer consumer) z = (plain_absent v producer (
 plain_absent v (Leaf lhs terms guards kernel) z = tt
 
 -- a loop that isn't walked has no walk
-no_walk : (walk : Option Walk) → is_some walk ≡ false → walk ≡ None
+pub no_walk : (walk : Option Walk) → is_some walk ≡ false → walk ≡ None
 no_walk None e = refl
 no_walk (Some k) e = absurd (cc)
 

@@ -2,7 +2,7 @@
 use Rattle.std.proofs.Common.{◌≡◌, ℕ, ◌<◌, Bool, true, false, ◌&&◌, List, [], ◌∷◌, ◌++◌, length, Option, Some, None, refl, sym, ap, ◌∙◌, subst}
 use Rattle.std.specs.Prelude.{not, nat_eq, nat_le}
 use Rattle.std.specs.List.{AllByRecursion, list_any}
-use Rattle.std.proofs.lemmas.Bool.{eq-eqb}
+use Rattle.std.proofs.lemmas.Bool.{eq-eqb, or_left, or_right}
 use Rattle.std.proofs.lemmas.List.Folds.{list_any-append}
 use Rattle.dt_model.specs.declared.stmt.Access.{Access}
 use Rattle.dt_nest.specs.declared.loops.Walk.{Walk}
@@ -15,8 +15,9 @@ use Rattle.dt_nest.specs.Schedule.{Schedule}
 use Rattle.dt_nest.specs.Meaning.{Env, renamed, under}
 use Rattle.dt_cuts.specs.Place.{guarded}
 use Rattle.dt_nest.specs.Lawful.{ArePairs, IsNamed, AreNamed, sources, is_replaced, AreLoops, Loops, also, Follows, take_before, WalkFollows, AllFollow, is_split, AreGuarded, HaveGuards, IsSubstituted, HaveKernels}
-use Rattle.dt_nest.proofs.Truth.{below_or_past, or_first, or_second, all_and, any_none, any_where}
-use Rattle.dt_nest.proofs.Leads.{also_either, also_more, whole_follows, past_replaced, renamed_past, Stands, stands_also, stands_under, follows_on, replaced_around, follows_back, named_sources}
+use Rattle.dt_nest.proofs.Truth.{below_or_past, all_and, any_none, any_where}
+use Rattle.dt_nest.proofs.Leads.{also_either, past_replaced, renamed_past, Stands, stands_also, stands_under, follows_on, replaced_around, follows_back, named_sources}
+use Rattle.dt_nest.proofs.Agree.{also_more, follows_loop}
 
 -- the guards that come speak of loops around, those of the new splits among them
 pub record Covers (new : List Derived) (gs : List ℕ) (a : Loops) : Type 0 where
@@ -109,14 +110,14 @@ module _ (s : Schedule) (new : List Derived) (derived : AreNamed s s.derived) wh
     pub come_on : (gs : List ℕ) → AllByRecursion (λ g. a g ≡ true) gs → AllByRecursion (λ g. Follows (s.derived ++ new) b name (name g)) gs
     come_on gs h =
         vars_on gs (all_map (λ g. a g ≡ true) (λ g. Follows s.derived a name (name g))
-        (λ g k. let p = at.plain g k in subst (λ (z : ℕ). Follows s.derived a name z) (sym p.1) (whole_follows s.derived a name g p.2 k)) gs h)
+        (λ g k. let p = at.plain g k in subst (λ (z : ℕ). Follows s.derived a name z) (sym p.1) (follows_loop s.derived a name g p.2 k)) gs h)
 
     old_guarded : (guards gs : List ℕ) (ds : List Derived) → AllByRecursion (λ d. AllByRecursion (λ u. u < length s.names) (sources d.how)) ds
         → AreGuarded new (guards ++ gs) b name → AreGuarded ds guards a name → AreGuarded (ds ++ new) (guards ++ gs) b name
     old_guarded guards gs [] below fresh h = fresh
     old_guarded guards gs (d ∷ ds) below fresh h = (
       (λ t f. list_any-append (λ g. nat_eq (name g) d.var) guards gs
-          ∙ or_first (list_any (λ g. nat_eq (name g) d.var) guards) (list_any (λ g. nat_eq (name g) d.var) gs)
+          ∙ or_left (list_any (λ g. nat_eq (name g) d.var) guards) (list_any (λ g. nat_eq (name g) d.var) gs)
           (h.0 t (all_map (λ u. (u < length s.names) × Follows (ds ++ new) b name (name u)) (λ u. Follows ds a name (name u)) (λ u q. follows_back s new a b name at ds below.1 (name u) (at.below u q.0) q.1)
           (sources d.how) (all_and (λ u. u < length s.names) (λ u. Follows (ds ++ new) b name (name u)) (sources d.how) below.0 f)))),
       old_guarded guards gs ds below.1 fresh h.1,
@@ -128,7 +129,7 @@ module _ (s : Schedule) (new : List Derived) (derived : AreNamed s s.derived) wh
     new_guarded guards gs come [] old missing h = tt
     new_guarded guards gs come (d ∷ ds) old missing h = (
       (λ t f. list_any-append (λ g. nat_eq (name g) d.var) guards gs
-          ∙ or_second (list_any (λ g. nat_eq (name g) d.var) guards) (list_any (λ g. nat_eq (name g) d.var) gs)
+          ∙ or_right (list_any (λ g. nat_eq (name g) d.var) guards) (list_any (λ g. nat_eq (name g) d.var) gs)
           (any_where (λ g. nat_eq g d.var) (λ g. nat_eq (name g) d.var) (λ g. a g ≡ true) (λ g e k. ap (λ (z : ℕ). nat_eq z d.var) (at.plain g k).1 ∙ e) gs
           (h.0 t (replaced_around s new a b name at ds (past_replaced (length s.names) ds old.1) d missing.0 f)) come)),
       new_guarded guards gs come ds old.1 missing.1 h.1,

@@ -7,11 +7,11 @@ use Rattle.dt_model.specs.declared.cause.Cause.{Cause}
 use Rattle.dt_nest.specs.declared.derivations.Derived.{Derived}
 use Rattle.dt_cuts.specs.declared.cuts.Head.{Head}
 use Rattle.dt_cuts.specs.declared.cuts.Cut.{Cut}
-use Rattle.dt_nest.specs.Tree.{Tree, Loop, Pre, Leaf, has_loop, loop_count, is_kernel_leaf}
+use Rattle.dt_nest.specs.Tree.{Tree, Loop, Pre, Leaf, has_loop, loop_count, is_kernel_leaf, accesses_of}
 use Rattle.dt_nest.specs.Schedule.{Schedule}
 use Rattle.dt_nest.specs.Commands.{Rule}
 use Rattle.dt_nest.specs.Meaning.{World, Env, bind, known, guards_hold}
-use Rattle.dt_nest.specs.Lawful.{Loops, also, sources, is_split, AreOrdered, AreNamed}
+use Rattle.dt_nest.specs.Lawful.{Loops, also, sources, is_split, AreOrdered, AreNamed, CoordinateAppears}
 use Rattle.dt_nest.specs.Sums.{sum_below}
 use Rattle.dt_cuts.specs.Place.{at_loop, loops_around, without_loops, guarded}
 use Rattle.dt_nest.specs.Questions.{is_among}
@@ -95,6 +95,7 @@ pub record IsCut (s : Schedule) (c : Cut) : Type 0 where
   pub covered : AllByRecursion (λ (h : Head). (is_head c.heads h.var || list_any (λ d. nat_eq h.var d.var) c.derived) ≡ true) c.old
   pub ordered : AreOrdered c.derived
   pub named : AreNamed (cut_by c s) c.derived
+  pub coordinates : AllByRecursion (λ d. CoordinateAppears (accesses_of s.nest) d.var d.how) c.derived
   pub guards : AllByRecursion (λ g. is_head c.old g ≡ true) c.guards
   pub guarded : AllByRecursion (λ d. is_split d.how ≡ true → list_any (λ g. nat_eq g d.var) c.guards ≡ true) c.derived
 

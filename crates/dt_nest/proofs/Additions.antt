@@ -28,7 +28,7 @@ use Rattle.dt_nest.specs.Odometer.{HaveSlots}
 use Rattle.dt_nest.specs.Effects.{with_more, effect_of, entries_after}
 use Rattle.dt_nest.specs.Outputs.{output_of, WritesWorks}
 use Rattle.dt_nest.proofs.Names.{renamed-append}
-use Rattle.dt_nest.proofs.Agree.{known_agree}
+use Rattle.dt_nest.proofs.Agree.{known_agree, map_agree}
 use Rattle.dt_nest.proofs.Moves.{range-add}
 use Rattle.dt_nest.proofs.Congruence.{Like, like_same, like_trans, like_add, reads_free, Alike, nest_sum-like}
 
@@ -71,10 +71,6 @@ zero_if b = if b then 0 else 0
 none_if : (b : Bool) → zero_if b ≡ 0
 none_if true = refl
 none_if false = refl
-
-map_agree : (P : ℕ → Type 0) (f g : ℕ → ℕ) → ((u : ℕ) → P u → f u ≡ g u) → (xs : List ℕ) → AllByRecursion P xs → map f xs ≡ map g xs
-map_agree P f g h [] e = refl
-map_agree P f g h (x ∷ xs) e = ap (λ (y : ℕ). y ∷ map f xs) (h x e.0) ∙ ap (λ (l : List ℕ). g x ∷ l) (map_agree P f g h xs e.1)
 
 module _ (w : World) (ds : List Derived) where
   after-append : (xs ys : List Item) (x : Entries) → entries_after w ds (xs ++ ys) x ≡ entries_after w ds ys (entries_after w ds xs x)

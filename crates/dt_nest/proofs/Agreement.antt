@@ -7,17 +7,9 @@ use Rattle.dt_nest.specs.declared.loops.Pair.{Pair}
 use Rattle.dt_nest.specs.declared.derivations.Derived.{Derived}
 use Rattle.dt_nest.proofs.Each.{all_map}
 use Rattle.dt_nest.proofs.Agree.{derive_agree}
-use Rattle.dt_nest.proofs.Leads.{follows_whole}
+use Rattle.dt_nest.proofs.Leads.{follows_whole, past_kept}
 use Rattle.dt_nest.specs.Meaning.{World, Env, derive_of, known, renamed, under}
 use Rattle.dt_nest.specs.Lawful.{sources, is_replaced, IsPast, AreOrdered, Loops, Follows}
-
-past_kept : (v : ℕ) (ds : List Derived) → IsPast v ds → is_replaced ds v ≡ false
-past_kept v [] h = refl
-past_kept v (d ∷ ds) h = go (nat_eq v d.var) h.0.0 (past_kept v ds h.1)
-  where
-    go : (b : Bool) → b ≡ false → is_replaced ds v ≡ false → (b || is_replaced ds v) ≡ false
-    go true e r = absurd (cc)
-    go false e r = r
 
 -- what follows by the later derivations follows by all
 follows_front : (d : Derived) (ds : List Derived) (around : Loops) (name : Env) → IsPast d.var ds → ((u : ℕ) → around u ≡ true → is_replaced (d ∷ ds) u ≡ false) → (v : ℕ) → Follows ds around name v → Follows (d ∷ ds) around name v

@@ -10,10 +10,10 @@ use Rattle.dt_model.specs.declared.stmt.Stmt.{Stmt}
 use Rattle.dt_nest.specs.declared.loops.Kernel.TheVariants.{Plain}
 use Rattle.dt_nest.specs.declared.parts.Work.{Work}
 use Rattle.dt_nest.proofs.Each.{all_map}
-use Rattle.dt_nest.specs.Tree.{Leaf, loop_count, leaf_count, times, is_kernel_leaf, read_accesses, accesses_of}
+use Rattle.dt_nest.specs.Tree.{Tree, Leaf, loop_count, leaf_count, times, is_kernel_leaf, read_accesses, accesses_of}
 use Rattle.dt_nest.specs.Outputs.{WritesWorks}
 use Rattle.dt_nest.specs.Schedule.{Schedule}
-use Rattle.dt_nest.specs.Lawful.{AccessBelow, IsNamed, AreLoops, Loops, also, AllFollow, HaveGuards, IsSubstituted, HaveKernels, IsOneOf, WorksStand, WorkAccess, IsLawful}
+use Rattle.dt_nest.specs.Lawful.{AccessBelow, IsNamed, WalksAppear, AreLoops, Loops, also, AllFollow, HaveGuards, IsSubstituted, HaveKernels, IsOneOf, WorksStand, WorkAccess, IsLawful}
 use Rattle.dt_nest.specs.Chain.{chain, stmt_schedule, IsAccessOf, IsSchedulable}
 
 -- the number of loops of a chain around a leaf
@@ -24,6 +24,11 @@ loop_count-chain v (n ∷ ns) lhs terms = let e = loop_count-chain (suc v) ns lh
 leaf_count-chain : (v : ℕ) (ns : List ℕ) (lhs : Access) (terms : List Term) → leaf_count (chain v ns (Leaf lhs terms [] Plain)) ≡ 1
 leaf_count-chain v [] lhs terms = refl
 leaf_count-chain v (n ∷ ns) lhs terms = leaf_count-chain (suc v) ns lhs terms
+
+-- loops around a tree add no access
+pub accesses-chain : (v : ℕ) (ns : List ℕ) (tree : Tree) → accesses_of (chain v ns tree) ≡ accesses_of tree
+accesses-chain v [] tree = refl
+accesses-chain v (n ∷ ns) tree = accesses-chain (suc v) ns tree
 
 -- a variable before the chain's first is no loop of it
 times-before : (u v : ℕ) (ns : List ℕ) (lhs : Access) (terms : List Term) → u < v → times u (chain v ns (Leaf lhs terms [] Plain)) ≡ 0
@@ -62,6 +67,11 @@ named_chain s before (n ∷ ns) lhs terms e k all =
     let more : suc (length before) ≡ length (before ++ n ∷ []) = sym (length-append before (n ∷ []) ∙ omega arith) in
     let rest = named_chain s (before ++ n ∷ []) ns lhs terms (append_assoc before (n ∷ []) ns ∙ e) k all in
     (omega arith, ap (λ (l : List ℕ). slice_index l (length before)) (sym e) ∙ index_at before n ns, tt, subst (λ (m : ℕ). IsNamed s (chain m ns (Leaf lhs terms [] Plain))) (sym more) rest)
+
+-- no loop of a chain is walked
+walks_chain : (v : ℕ) (ns : List ℕ) (lhs : Access) (terms : List Term) → WalksAppear (chain v ns (Leaf lhs terms [] Plain))
+walks_chain v [] lhs terms = tt
+walks_chain v (n ∷ ns) lhs terms = (tt, walks_chain (suc v) ns lhs terms)
 
 loops_chain : (v : ℕ) (ns : List ℕ) (lhs : Access) (terms : List Term) → AreLoops [] (chain v ns (Leaf lhs terms [] Plain))
 loops_chain v [] lhs terms = tt
@@ -139,6 +149,8 @@ stmt_lawful s vars tensors h = record {
   };
   named = named_chain (stmt_schedule s vars tensors) [] s.extents s.lhs s.terms refl (sym h.named)
       (subst (λ (k : ℕ). AllByRecursion (AccessBelow k (length tensors + 0)) (s.lhs ∷ read_accesses s.terms)) (sym h.named) (all_map (IsAccessOf (length s.extents) (length tensors)) (AccessBelow (length s.extents) (length tensors + 0)) (access_below (length s.extents) (length tensors)) (s.lhs ∷ read_accesses s.terms) h.accesses));
+  walks = walks_chain 0 s.extents s.lhs s.terms;
+  coordinates = tt;
   derived = tt;
   ordered = tt;
   loops = loops_chain 0 s.extents s.lhs s.terms;

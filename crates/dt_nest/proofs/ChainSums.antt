@@ -27,6 +27,7 @@ use Rattle.dt_nest.specs.Meaning.{World, Env, Entries, bind, known, factor_of, t
 use Rattle.dt_nest.specs.World.{world_of, entries_of, FitsAccess}
 use Rattle.dt_nest.proofs.Inside.{length_shapes}
 use Rattle.dt_nest.specs.Chain.{chain, stmt_schedule, IsSchedulable, MeansStmt}
+use Rattle.dt_nest.proofs.ChainLawful.{accesses-chain}
 
 -- a sum over a range, in both forms
 pub sum_by-below : (n : ℕ) (f : ℕ → ℕ) → sum_by f (below n) ≡ sum_below n f
@@ -173,10 +174,6 @@ chain_means w tensors lhs terms extents c left le inside =
     ∙ sum_by-front k extents c f le inside
     ∙ sum_by-same (λ a. f (c ++ a)) (λ a. sum_by (λ t. sign t.minus * term_value tensors (c ++ a) t.factors) terms) (assignments (drop (length c) extents)) (λ a. terms_same tensors (c ++ a) terms)
     ∙ sum_by-swap (λ (t : Term). sign t.minus) (λ a t. term_value tensors (c ++ a) t.factors) (assignments (drop (length c) extents)) terms
-
-accesses-chain : (v : ℕ) (ns : List ℕ) (tree : Tree) → accesses_of (chain v ns tree) ≡ accesses_of tree
-accesses-chain v [] tree = refl
-accesses-chain v (n ∷ ns) tree = accesses-chain (suc v) ns tree
 
 all_last : (P : ℕ → Type 0) (xs : List ℕ) (y : ℕ) → AllByRecursion P (xs ++ y ∷ []) → P y
 all_last P [] y h = h.0

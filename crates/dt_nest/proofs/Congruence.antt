@@ -3,7 +3,7 @@ use Rattle.std.proofs.Common.{◌≡◌, ℕ, zero, suc, ◌+◌, ◌*◌, ◌%�
 use Rattle.std.specs.Prelude.{if◌then◌else◌, nat_eq}
 use Rattle.std.specs.List.{list_any, flat_map}
 use Rattle.std.specs.Str.{bytes_eq}
-use Rattle.std.proofs.lemmas.Bool.{eq-eqb}
+use Rattle.std.proofs.lemmas.Bool.{eq-eqb, or_left, or_right}
 use Rattle.std.proofs.lemmas.Nat.{mul-mod_first, mul-mod_second}
 use Rattle.std.proofs.lemmas.List.Sums.{sum_by-cons}
 use Rattle.dt_base.specs.Rows.{product}
@@ -56,15 +56,8 @@ is_read u accesses = list_any (λ a. nat_eq a.tensor u) accesses
 abbrev pub AlikeAt : Entries → Entries → List Access → Type 0
 AlikeAt x y accesses = (u : ℕ) → is_read u accesses ≡ true → (c : List ℕ) → Like (x u c) (y u c)
 
-or_left : (a b : Bool) → a ≡ true → (a || b) ≡ true
-or_left true b e = refl
-or_left false b e = absurd (cc)
-
-or_right : (a b : Bool) → b ≡ true → (a || b) ≡ true
-or_right true b e = refl
-or_right false b e = e
-
-read_first : (u : ℕ) (xs ys : List Access) → is_read u xs ≡ true → is_read u (xs ++ ys) ≡ true
+-- what is read in one of two lists is read in both, one after the other
+pub read_first : (u : ℕ) (xs ys : List Access) → is_read u xs ≡ true → is_read u (xs ++ ys) ≡ true
 read_first u [] ys e = absurd (cc)
 read_first u (x ∷ xs) ys e = go (nat_eq x.tensor u) e (λ e. read_first u xs ys e)
   where
@@ -72,7 +65,7 @@ read_first u (x ∷ xs) ys e = go (nat_eq x.tensor u) e (λ e. read_first u xs y
     go true e r = refl
     go false e r = r e
 
-read_second : (u : ℕ) (xs ys : List Access) → is_read u ys ≡ true → is_read u (xs ++ ys) ≡ true
+pub read_second : (u : ℕ) (xs ys : List Access) → is_read u ys ≡ true → is_read u (xs ++ ys) ≡ true
 read_second u [] ys e = e
 read_second u (x ∷ xs) ys e = or_right (nat_eq x.tensor u) (is_read u (xs ++ ys)) (read_second u xs ys e)
 

@@ -5,7 +5,7 @@ use Rattle.std.specs.List.{AllByRecursion, flat_map, range_with_len}
 use Rattle.dt_nest.specs.declared.loops.Walk.{Walk}
 use Rattle.dt_nest.specs.declared.loops.Pair.{Pair}
 use Rattle.dt_nest.specs.Tree.{Tree, Loop, Pre, Leaf, leaf_count, is_kernel_leaf}
-use Rattle.dt_nest.proofs.Each.{all_append}
+use Rattle.dt_nest.proofs.Each.{all_append, all_flat_map}
 use Rattle.dt_nest.specs.Visits.{LeafNode, Lanes, Scope, entered, in_producer, Item, IsVisit, Tests, with_reset, values_on, lane_visit, is_valid, valid_values, substituted_visits, tree_visits}
 use Rattle.dt_nest.specs.Odometer.{leaf_item, guards_of, item_at, pairs_at}
 use Rattle.dt_nest.specs.Branch.{node_at, loops_at, lanes_at, visit_at}
@@ -14,10 +14,6 @@ use Rattle.dt_nest.specs.Run.{ItemHolds}
 and_right : (a b : Bool) → (a && b) ≡ true → b ≡ true
 and_right true b e = e
 and_right false b e = absurd (cc)
-
-all_flat_map : (P : Item → Type 0) (f : ℕ → List Item) (xs : List ℕ) → ((x : ℕ) → AllByRecursion P (f x)) → AllByRecursion P (flat_map f xs)
-all_flat_map P f [] h = tt
-all_flat_map P f (x ∷ xs) h = all_append P (f x) (flat_map f xs) (h x) (all_flat_map P f xs h)
 
 module _ (t : Tests) where
   valid_hold : (walk : Option Walk) (v : ℕ) (guards : List ℕ) (pairs : List Pair) (slots xs : List ℕ) → AllByRecursion (λ x. t.holds guards pairs (slice_set slots v x) ≡ true) (filter (is_valid t walk v guards pairs slots) xs)

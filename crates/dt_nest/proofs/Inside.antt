@@ -13,12 +13,14 @@ use Rattle.dt_nest.specs.declared.derivations.Derive.{Derive}
 use Rattle.dt_nest.specs.declared.derivations.Derive.TheVariants.{Split, Quotient, Rest, Rotate, Pos}
 use Rattle.dt_nest.specs.declared.derivations.Derived.{Derived}
 use Rattle.dt_nest.proofs.Each.{all_map, all_filter, all_get, all_made, all_flat, below_all}
-use Rattle.dt_nest.specs.Tree.{Tree, Loop, Pre, Leaf}
+use Rattle.dt_nest.specs.Tree.{Tree, Loop, Pre, Leaf, accesses_of}
 use Rattle.dt_nest.specs.Schedule.{Schedule}
 use Rattle.dt_nest.specs.FitsStored.{FitsStored}
 use Rattle.dt_nest.specs.Meaning.{World, Env, bind, derive_of, known, val_of, guards_hold, renamed, under}
-use Rattle.dt_nest.specs.World.{world_of, FitsDerive, Fits}
+use Rattle.dt_nest.specs.World.{world_of, Fits}
+use Rattle.dt_nest.proofs.LawfulFit.{FitsCoordinate, coordinates_fit}
 use Rattle.dt_nest.specs.Lawful.{ArePairs, IsNamed, sources, is_replaced, IsPast, AreOrdered, IsBounded, AreNamed, Loops, also, Follows, is_split, AreGuarded, HaveGuards, IsLawful}
+use Rattle.dt_nest.proofs.Leads.{past_kept}
 
 -- Where all guards of a leaf hold, each variable that has a value is below its extent, for all values of the loops around.
 abbrev pub StaysInside : World → List Derived → Tree → Loops → Env → Env → Type 0
@@ -60,18 +62,9 @@ renamed_extents s (p ∷ ps) h u = renamed_extents s ps h.1 (if nat_eq u p.from 
     go true e = h.0.2 ∙ ap (slice_index s.extents) (sym (e refl))
     go false e = refl
 
--- what no later derivation replaces or names is not replaced by them
-past_kept : (v : ℕ) (ds : List Derived) → IsPast v ds → is_replaced ds v ≡ false
-past_kept v [] h = refl
-past_kept v (d ∷ ds) h = go (nat_eq v d.var) h.0.0 (past_kept v ds h.1)
-  where
-    go : (b : Bool) → b ≡ false → is_replaced ds v ≡ false → (b || is_replaced ds v) ≡ false
-    go true e r = absurd (cc)
-    go false e r = r
-
 module _ (stored : List StoredTensor) (s : Schedule) (each : (t : ℕ) → t < length s.tensors → IsStored (tensor_at stored t)) where
   -- the value that a derivation gives is below the variable's extent, where those of what it names are below theirs
-  derived_below : (v : ℕ) (how : Derive) (val : Env) → IsBounded s v how → FitsDerive stored s v how → (is_split how ≡ true → derive_of (world_of stored s) how val < slice_index s.extents v)
+  derived_below : (v : ℕ) (how : Derive) (val : Env) → IsBounded s v how → FitsCoordinate stored s v how → (is_split how ≡ true → derive_of (world_of stored s) how val < slice_index s.extents v)
       → AllByRecursion (λ u. val u < slice_index s.extents u) (sources how) → derive_of (world_of stored s) how val < slice_index s.extents v
   derived_below v (Split outer inner factor) val b f g h = g refl
   derived_below v (Quotient fused zero) val b f g h = absurd (let e : slice_index s.extents v * 0 ≡ 0 = omega arith in omega (arith, b, e, h.0))
@@ -88,7 +81,7 @@ module _ (stored : List StoredTensor) (s : Schedule) (each : (t : ℕ) → t < l
 
   -- so is each variable that has a value, where the guards of the splits hold
   pub variables_below : (guards : List ℕ) (around : Loops) (name env : Env) → ((u : ℕ) → around u ≡ true → env u < slice_index s.extents u) → ((u : ℕ) → slice_index s.extents (name u) ≡ slice_index s.extents u)
-      → (ds : List Derived) → AreNamed s ds → AllByRecursion (λ d. FitsDerive stored s d.var d.how) ds → AreOrdered ds → AreGuarded ds guards around name
+      → (ds : List Derived) → AreNamed s ds → AllByRecursion (λ d. FitsCoordinate stored s d.var d.how) ds → AreOrdered ds → AreGuarded ds guards around name
       → ((v : ℕ) → list_any (λ g. nat_eq (name g) v) guards ≡ true → is_replaced ds v ≡ true → known (world_of stored s) ds name env v < slice_index s.extents v)
       → (v : ℕ) → Follows ds around name v → known (world_of stored s) ds name env v < slice_index s.extents v
   unfolding known
@@ -115,7 +108,7 @@ module _ (stored : List StoredTensor) (s : Schedule) (each : (t : ℕ) → t < l
       go true e f hold r =
           let p : d.var ≡ v = sym (e refl) in
           derived_below v d.how (λ u. known (world_of stored s) ds name env (name u))
-          (subst (λ (z : ℕ). IsBounded s z d.how) p n.0.2) (subst (λ (z : ℕ). FitsDerive stored s z d.how) p fits.0)
+          (subst (λ (z : ℕ). IsBounded s z d.how) p n.0.2) (subst (λ (z : ℕ). FitsCoordinate stored s z d.how) p fits.0)
           (λ t. hold (subst (λ (z : ℕ). list_any (λ g. nat_eq (name g) z) guards ≡ true) p (g.0 t f)) refl)
           (all_map (λ u. Follows ds around name (name u)) (λ u. known (world_of stored s) ds name env (name u) < slice_index s.extents u) (λ u k. subst (λ (z : ℕ). known (world_of stored s) ds name env (name u) < z) (same u) (r (name u) k)) (sources d.how) f)
       go false e f hold r = r v f
@@ -139,7 +132,7 @@ module _ (stored : List StoredTensor) (s : Schedule) (each : (t : ℕ) → t < l
           let k : known (world_of stored s) ds name env v < slice_index s.extents g = subst (λ (z : ℕ). known (world_of stored s) ds name env z < slice_index s.extents g) (e refl) (l refl) in
           subst (λ (z : ℕ). known (world_of stored s) ds name env v < z) (sym (same g) ∙ ap (slice_index s.extents) (e refl)) k
 
-  tree_inside : (ds : List Derived) → AreNamed s ds → AllByRecursion (λ d. FitsDerive stored s d.var d.how) ds → AreOrdered ds
+  tree_inside : (ds : List Derived) → AreNamed s ds → AllByRecursion (λ d. FitsCoordinate stored s d.var d.how) ds → AreOrdered ds
       → (tree : Tree) (around : Loops) (name env : Env) → IsNamed s tree → HaveGuards ds tree around name
       → ((u : ℕ) → around u ≡ true → env u < slice_index s.extents u) → ((u : ℕ) → slice_index s.extents (name u) ≡ slice_index s.extents u)
       → StaysInside (world_of stored s) ds tree around name env
@@ -166,7 +159,7 @@ pub stays_inside : (s : Schedule) (stored : List StoredTensor) (tensors : List W
     → StaysInside (world_of stored s) s.derived s.nest (λ u. false) (λ u. u) (λ u. 0)
 stays_inside s stored tensors l f =
     tree_inside stored s (λ t k. all_get IsStored stored t (record { extents = []; compressed = []; coords = [] }) f.levels (omega (arith, k, f.count, length_shapes stored tensors f.shapes)))
-    s.derived l.derived f.positions l.ordered s.nest (λ u. false) (λ u. u) (λ u. 0) l.named l.guards (λ u a. absurd (cc)) (λ u. refl)
+    s.derived l.derived (coordinates_fit stored s (accesses_of s.nest) s.derived f.accesses l.derived f.positions l.coordinates) l.ordered s.nest (λ u. false) (λ u. u) (λ u. 0) l.named l.guards (λ u a. absurd (cc)) (λ u. refl)
 
 -- what tensors that fit store fits
 pub fits_stored : (stored : List StoredTensor) (tensors : List WholeTensor) (s : Schedule) → Fits stored tensors s → FitsStored stored s
@@ -174,6 +167,5 @@ fits_stored stored tensors s f = record {
   count = length_shapes stored tensors f.shapes ∙ f.count;
   levels = f.levels;
   accesses = f.accesses;
-  walks = f.walks;
   positions = f.positions;
 }

@@ -3,42 +3,37 @@
 use Rattle.std.proofs.Common.{◌≡◌, ℕ, ◌<◌, ◌≤◌, Bool, true, false, ◌||◌, ◌&&◌, List, [], ◌∷◌, ◌++◌, length, refl, sym, ap, ◌∙◌, subst, arith}
 use Rattle.std.specs.Prelude.{if◌then◌else◌, not, MatchBool, nat_eq, nat_le}
 use Rattle.std.specs.List.{AllByRecursion, list_any}
-use Rattle.std.proofs.lemmas.Bool.{eqb-true, eq-eqb, ne_eqb, leb-true}
+use Rattle.std.proofs.lemmas.Bool.{eqb-true, eq-eqb, ne_eqb, leb-true, or_left, or_right, or_parts, or_from, and_parts, and_from, not-true, not_from_false}
 use Rattle.std.proofs.lemmas.List.Folds.{list_any-append}
 use Rattle.dt_nest.specs.declared.loops.Pair.{Pair}
 use Rattle.dt_nest.specs.declared.derivations.Derived.{Derived}
 use Rattle.dt_nest.proofs.Each.{all_map}
 use Rattle.dt_nest.specs.Schedule.{Schedule}
 use Rattle.dt_nest.specs.Meaning.{Env, renamed, under}
-use Rattle.dt_nest.specs.Lawful.{ArePairs, sources, is_replaced, IsBounded, AreNamed, Loops, also, Follows}
-use Rattle.dt_nest.proofs.Truth.{or_first, or_second, or_neither, neither_or, or_either, and_both, both_and, not_true, true_not, below_or_past, all_and, any_with, any_more, any_none, none_any}
+use Rattle.dt_nest.specs.Lawful.{ArePairs, sources, is_replaced, IsBounded, AreNamed, Loops, also, Follows, IsPast}
+use Rattle.dt_nest.proofs.Truth.{or_either, below_or_past, all_and, any_with, any_more, any_none, none_any}
+use Rattle.dt_nest.proofs.Agree.{also_here, also_more, follows_loop}
 
 -- One more loop -------------------------------------------------------------------------------------------------------
 
 pub also_either : (R : Type 0) (a : Loops) (v u : ℕ) → also a v u ≡ true → (u ≡ v → R) → (a u ≡ true → R) → R
 also_either R a v u h f g = or_either R (nat_eq u v) (a u) h (λ e. f (eqb-true u v e)) g
 
-pub also_more : (a : Loops) (v u : ℕ) → a u ≡ true → also a v u ≡ true
-also_more a v u h = or_second (nat_eq u v) (a u) h
-
-pub also_here : (a : Loops) (v : ℕ) → also a v v ≡ true
-also_here a v = or_first (nat_eq v v) (a v) (eq-eqb v v refl)
-
 -- What is replaced ----------------------------------------------------------------------------------------------------
 
--- what no derivation replaces follows as a loop
-pub whole_follows : (ds : List Derived) (a : Loops) (name : Env) (v : ℕ) → is_replaced ds v ≡ false → a v ≡ true → Follows ds a name v
-whole_follows [] a name v r h = h
-whole_follows (d ∷ ds) a name v r h = let o = or_neither (nat_eq v d.var) (is_replaced ds v) r in go (nat_eq v d.var) o.0 (whole_follows ds a name v o.1 h)
+-- what no later derivation replaces or names is not replaced by them
+pub past_kept : (v : ℕ) (ds : List Derived) → IsPast v ds → is_replaced ds v ≡ false
+past_kept v [] h = refl
+past_kept v (d ∷ ds) h = go (nat_eq v d.var) h.0.0 (past_kept v ds h.1)
   where
-    go : (b : Bool) → b ≡ false → Follows ds a name v → MatchBool b (AllByRecursion (λ u. Follows ds a name (name u)) (sources d.how)) (Follows ds a name v)
-    go true e f = absurd (cc)
-    go false e f = f
+    go : (b : Bool) → b ≡ false → is_replaced ds v ≡ false → (b || is_replaced ds v) ≡ false
+    go true e r = absurd (cc)
+    go false e r = r
 
--- and is a loop where it follows
+-- what no derivation replaces is a loop where it follows
 pub follows_whole : (ds : List Derived) (a : Loops) (name : Env) (v : ℕ) → is_replaced ds v ≡ false → Follows ds a name v → a v ≡ true
 follows_whole [] a name v r h = h
-follows_whole (d ∷ ds) a name v r h = let o = or_neither (nat_eq v d.var) (is_replaced ds v) r in go (nat_eq v d.var) o.0 h (λ f. follows_whole ds a name v o.1 f)
+follows_whole (d ∷ ds) a name v r h = let o = or_parts (nat_eq v d.var) (is_replaced ds v) r in go (nat_eq v d.var) o.0 h (λ f. follows_whole ds a name v o.1 f)
   where
     go : (b : Bool) → b ≡ false → MatchBool b (AllByRecursion (λ u. Follows ds a name (name u)) (sources d.how)) (Follows ds a name v) → (Follows ds a name v → a v ≡ true) → a v ≡ true
     go true e f r = absurd (cc)
@@ -46,10 +41,10 @@ follows_whole (d ∷ ds) a name v r h = let o = or_neither (nat_eq v d.var) (is_
 
 -- by neither list, by both
 pub replaced_append : (ds new : List Derived) (v : ℕ) → is_replaced ds v ≡ false → is_replaced new v ≡ false → is_replaced (ds ++ new) v ≡ false
-replaced_append ds new v h k = list_any-append (λ d. nat_eq v d.var) ds new ∙ neither_or (is_replaced ds v) (is_replaced new v) h k
+replaced_append ds new v h k = list_any-append (λ d. nat_eq v d.var) ds new ∙ or_from (is_replaced ds v) (is_replaced new v) h k
 
 pub append_replaced : (ds new : List Derived) (v : ℕ) → is_replaced (ds ++ new) v ≡ false → (is_replaced ds v ≡ false) × (is_replaced new v ≡ false)
-append_replaced ds new v h = or_neither (is_replaced ds v) (is_replaced new v) (sym (list_any-append (λ d. nat_eq v d.var) ds new) ∙ h)
+append_replaced ds new v h = or_parts (is_replaced ds v) (is_replaced new v) (sym (list_any-append (λ d. nat_eq v d.var) ds new) ∙ h)
 
 -- a name past those of all variables
 pub past_replaced : (k : ℕ) (ds : List Derived) → AllByRecursion (λ d. d.var < k) ds → (u : ℕ) → k ≤ u → is_replaced ds u ≡ false
@@ -101,7 +96,7 @@ leads_first k new old fresh = record {
   back = λ u l h. absurd (cc);
   missing =
       all_map (λ (d : Derived). list_any (λ u. nat_le k u) (sources d.how) ≡ true) (λ d. false ≡ false → list_any (λ u. nat_le k u && not false) (sources d.how) ≡ true)
-      (λ d f h. any_more (λ u. nat_le k u) (λ u. nat_le k u && not false) (λ u e. both_and (nat_le k u) true e refl) (sources d.how) f) new fresh;
+      (λ d f h. any_more (λ u. nat_le k u) (λ u. nat_le k u && not false) (λ u e. and_from (nat_le k u) true e refl) (sources d.how) f) new fresh;
 }
 
 -- one more old loop that isn't replaced
@@ -119,7 +114,7 @@ leads_also k new a b v below whole l = record {
   back = λ u lt h. also_either (also a v u ≡ true) b v u h (λ e. subst (λ (z : ℕ). also a v z ≡ true) (sym e) (also_here a v)) (λ h. also_more a v u (l.back u lt h));
   missing =
       all_map (λ (d : Derived). a d.var ≡ false → list_any (λ u. nat_le k u && not (b u)) (sources d.how) ≡ true) (λ d. also a v d.var ≡ false → list_any (λ u. nat_le k u && not (also b v u)) (sources d.how) ≡ true)
-      (λ d m h. any_more (λ u. nat_le k u && not (b u)) (λ u. nat_le k u && not (also b v u)) (λ u e. still u (and_both (nat_le k u) (not (b u)) e)) (sources d.how) (m (or_neither (nat_eq d.var v) (a d.var) h).1))
+      (λ d m h. any_more (λ u. nat_le k u && not (b u)) (λ u. nat_le k u && not (also b v u)) (λ u e. still u (and_parts (nat_le k u) (not (b u)) e)) (sources d.how) (m (or_parts (nat_eq d.var v) (a d.var) h).1))
       new l.missing;
 }
   where
@@ -129,7 +124,7 @@ leads_also k new a b v below whole l = record {
     still : (u : ℕ) → (nat_le k u ≡ true) × (not (b u) ≡ true) → (nat_le k u && not (also b v u)) ≡ true
     still u h =
         let le : k ≤ u = leb-true k u h.0 in
-        both_and (nat_le k u) (not (also b v u)) h.0 (true_not (also b v u) (neither_or (nat_eq u v) (b u) (ne_eqb u v (λ e. omega (arith, e, le))) (not_true (b u) h.1)))
+        and_from (nat_le k u) (not (also b v u)) h.0 (not_from_false (also b v u) (or_from (nat_eq u v) (b u) (ne_eqb u v (λ e. omega (arith, e, le))) (not-true (b u) h.1)))
 
 -- A place of a schedule: the new derivations lead from a to b, new loops have no other names there, and the loops around
 -- neither have other names nor were replaced.
@@ -162,7 +157,7 @@ stands_under s new a b name pairs p keeps at = record {
   leads = at.leads;
   past = λ u le. ap (renamed pairs) (at.past u le) ∙ renamed_past s pairs p u le;
   below = λ u l. renamed_below s pairs p (name u) (at.below u l);
-  plain = λ u h. let q = at.plain u h in (q.0, ap (renamed pairs) q.1 ∙ keeps u (whole_follows s.derived a name u q.2 h), q.2);
+  plain = λ u h. let q = at.plain u h in (q.0, ap (renamed pairs) q.1 ∙ keeps u (follows_loop s.derived a name u q.2 h), q.2);
 }
 
 module _ (s : Schedule) (new : List Derived) (a b : Loops) (name : Env) (at : Stands s new a b name) where
@@ -177,13 +172,13 @@ module _ (s : Schedule) (new : List Derived) (a b : Loops) (name : Env) (at : St
   new_on (d ∷ ds) part through v h kept = go (nat_eq v d.var) (eqb-true v d.var) kept (λ k. new_on ds later through.1 v h k)
     where
       later : (u : ℕ) → is_replaced new u ≡ false → is_replaced ds u ≡ false
-      later u r = (or_neither (nat_eq u d.var) (is_replaced ds u) (part u r)).1
+      later u r = (or_parts (nat_eq u d.var) (is_replaced ds u) (part u r)).1
 
       go : (t : Bool) → (t ≡ true → v ≡ d.var) → ((t || is_replaced ds v) ≡ false → b v ≡ true) → ((is_replaced ds v ≡ false → b v ≡ true) → Follows ds b name v)
           → MatchBool t (AllByRecursion (λ u. Follows ds b name (name u)) (sources d.how)) (Follows ds b name v)
       go true e k r =
           all_map (λ u. (b u ≡ true) × (is_replaced new u ≡ false)) (λ u. Follows ds b name (name u))
-          (λ u q. subst (λ (z : ℕ). Follows ds b name z) (sym (stands_plain u q.0)) (whole_follows ds b name u (later u q.1) q.0))
+          (λ u q. subst (λ (z : ℕ). Follows ds b name z) (sym (stands_plain u q.0)) (follows_loop ds b name u (later u q.1) q.0))
           (sources d.how) (through.0 (subst (λ (z : ℕ). a z ≡ true) (e refl) h))
       go false e k r = r k
 
@@ -205,10 +200,10 @@ module _ (s : Schedule) (new : List Derived) (a b : Loops) (name : Env) (at : St
     where
       none : (u : ℕ) → (nat_le (length s.names) u && not (b u)) ≡ true → Follows ds b name (name u) → ⊥
       none u h f =
-          let q = and_both (nat_le (length s.names) u) (not (b u)) h in
+          let q = and_parts (nat_le (length s.names) u) (not (b u)) h in
           let le : length s.names ≤ u = leb-true (length s.names) u q.0 in
           let k : b u ≡ true = follows_whole ds b name u (whole u le) (subst (λ (z : ℕ). Follows ds b name z) (at.past u le) f) in
-          let n : b u ≡ false = not_true (b u) q.1 in absurd (cc)
+          let n : b u ≡ false = not-true (b u) q.1 in absurd (cc)
 
       go : (t : Bool) → (t ≡ false → list_any (λ u. nat_le (length s.names) u && not (b u)) (sources d.how) ≡ true) → t ≡ true
       go true m = refl

@@ -3,7 +3,7 @@ use Rattle.std.proofs.Common.{◌≡◌, ℕ, zero, suc, ◌+◌, ◌-◌, ◌<�
 use Rattle.std.specs.Prelude.{if◌then◌else◌, MatchBool, nat_eq, nat_lt, slice_index, slice_set}
 use Rattle.std.specs.List.{AllByRecursion, list_all, range_with_len}
 use Rattle.std.proofs.Math.Path.{fun_ext}
-use Rattle.std.proofs.lemmas.Bool.{eqb-true, eq-eqb, ltb-true, ltb-false}
+use Rattle.std.proofs.lemmas.Bool.{eqb-true, eq-eqb, ltb-true, ltb-false, or_right}
 use Rattle.std.proofs.Math.ListN.{length-set}
 use Rattle.std.proofs.lemmas.List.{get_or-set_other, get_or-set_same, get_or_past}
 use Rattle.dt_model.specs.Positions.{StoredTensor, IsStored, tensor_at}
@@ -14,7 +14,8 @@ use Rattle.dt_nest.specs.declared.branches.Substituted.{Substituted}
 use Rattle.dt_nest.specs.Tree.{Tree, Loop, Pre, Leaf, leaf_count, is_kernel_leaf, read_accesses}
 use Rattle.dt_nest.specs.Schedule.{Schedule}
 use Rattle.dt_nest.specs.Meaning.{World, renamed, under, guards_hold}
-use Rattle.dt_nest.specs.World.{world_of, FitsDerive}
+use Rattle.dt_nest.specs.World.{world_of}
+use Rattle.dt_nest.proofs.LawfulFit.{FitsCoordinate}
 use Rattle.dt_nest.specs.Lawful.{is_replaced, AreLoops, IsNamed, AreNamed, AreOrdered, Loops, also, Follows, AllFollow, AreGuarded, HaveGuards, IsSubstituted, HaveKernels}
 use Rattle.dt_nest.proofs.Inside.{guard_holds, renamed_extents, variables_below}
 use Rattle.dt_nest.specs.Values.{inside_in, guard_inside, is_below, inside_tests}
@@ -24,18 +25,13 @@ use Rattle.dt_nest.proofs.Each.{all_filter}
 use Rattle.dt_nest.specs.Branch.{leaf_at, node_at, leaf_tree, loops_at, substituted_at, valid_at, lanes_at}
 use Rattle.dt_nest.specs.Run.{among, with_lane, is_among, AreAscending, GuardsHold}
 use Rattle.dt_nest.proofs.Names.{renamed-append}
-use Rattle.dt_nest.proofs.Agree.{known_agree, follows_more}
+use Rattle.dt_nest.proofs.Agree.{known_agree, follows_more, follows_loop}
 use Rattle.dt_nest.proofs.Agreement.{follows_under}
-use Rattle.dt_nest.proofs.Leads.{whole_follows}
 use Rattle.dt_nest.proofs.Known.{Outside, inside_known, inside_none}
 use Rattle.dt_nest.proofs.Searches.{any_found}
 use Rattle.dt_nest.proofs.Pruned.{deeper, leaf_fails}
 
 -- The leaf itself and the substituted loop ----------------------------------------------------------------------------
-
-or_true : (b c : Bool) → c ≡ true → (b || c) ≡ true
-or_true true c e = refl
-or_true false c e = e
 
 -- the leaf is the tree with its parts
 pub leaf-node : (tree : Tree) (leaf : ℕ) → leaf_at tree leaf ≡ leaf_tree (node_at tree leaf)
@@ -178,7 +174,7 @@ pub record AreAround (ds : List Derived) (around : Loops) (pairs : List Pair) : 
 
 module _ (s : Schedule) (ds : List Derived) (ordered : AreOrdered ds) (t : Tests) where
   own_follows : (v : ℕ) (around : Loops) (pairs : List Pair) → renamed pairs v ≡ v → is_replaced ds v ≡ false → Follows ds (also around v) (renamed pairs) (renamed pairs v)
-  own_follows v around pairs e r = subst (Follows ds (also around v) (renamed pairs)) (sym e) (whole_follows ds (also around v) (renamed pairs) v r (ap (λ (b : Bool). b || around v) (eq-eqb v v refl)))
+  own_follows v around pairs e r = subst (Follows ds (also around v) (renamed pairs)) (sym e) (follows_loop ds (also around v) (renamed pairs) v r (ap (λ (b : Bool). b || around v) (eq-eqb v v refl)))
 
   -- one more loop around
   more_around : (v : ℕ) (around : Loops) (pairs : List Pair) → renamed pairs v ≡ v → is_replaced ds v ≡ false → AreAround ds around pairs → AreAround ds (also around v) pairs
@@ -193,7 +189,7 @@ module _ (s : Schedule) (ds : List Derived) (ordered : AreOrdered ds) (t : Tests
 
       follow : (u : ℕ) (b : Bool) → (b ≡ true → u ≡ v) → (b || around u) ≡ true → Follows ds (also around v) (renamed pairs) (renamed pairs u)
       follow u true i k = subst (λ (x : ℕ). Follows ds (also around v) (renamed pairs) (renamed pairs x)) (sym (i refl)) (own_follows v around pairs e r)
-      follow u false i k = follows_more ds around (also around v) (renamed pairs) (λ w m. or_true (nat_eq w v) (around w) m) (renamed pairs u) (h.follow u k)
+      follow u false i k = follows_more ds around (also around v) (renamed pairs) (λ w m. or_right (nat_eq w v) (around w) m) (renamed pairs u) (h.follow u k)
 
   -- the loops around a producer keep their names there
   around_under : (around : Loops) (pairs more : List Pair) → ((u : ℕ) → Follows ds around (renamed pairs) u → renamed more u ≡ u) → AreAround ds around pairs → AreAround ds around (pairs ++ more)
@@ -329,7 +325,7 @@ module _ (stored : List StoredTensor) (s : Schedule) (each : (t : ℕ) → t < l
         value_or_out (also around lanes.var) (slice_set slots lanes.var x) u o k e
         (none_outside leaf.guards (also around lanes.var) (slice_set slots lanes.var x) f.guards f.keeps (all_among (λ y. (inside_tests (world_of stored s) ds).holds leaf.guards pairs (slice_set slots lanes.var y) ≡ true) x lanes.valid h.1 m))
 
-  module _ (named : AreNamed s ds) (fits : AllByRecursion (λ d. FitsDerive stored s d.var d.how) ds) (around : Loops) (leaf : LeafNode) where
+  module _ (named : AreNamed s ds) (fits : AllByRecursion (λ d. FitsCoordinate stored s d.var d.how) ds) (around : Loops) (leaf : LeafNode) where
     -- what follows from loops that are below their extents is below its own, where guards hold
     value_below : (more : Loops) (values : List ℕ) → ((u : ℕ) → more u ≡ true → slice_index values u < slice_index s.extents u) → AreGuarded ds leaf.guards more (renamed pairs) → ((u : ℕ) → slice_index s.extents (renamed pairs u) ≡ slice_index s.extents u)
         → (inside_tests (world_of stored s) ds).holds leaf.guards pairs values ≡ true → (u : ℕ) → Follows ds more (renamed pairs) (renamed pairs u) → value_in (world_of stored s) ds pairs values u < slice_index s.extents u
@@ -365,7 +361,7 @@ module _ (stored : List StoredTensor) (s : Schedule) (each : (t : ℕ) → t < l
         go [] l a b = absurd (omega arith)
         go (x ∷ valid) l a b =
             subst (λ (n : ℕ). n < slice_index s.extents u) (known_agree (world_of stored s) ds around (renamed pairs) (slice_index (slice_set slots lanes.var x)) (slice_index slots) (other x) (renamed pairs u) k)
-            (value_below (also around lanes.var) (slice_set slots lanes.var x) (lane_inside lanes.var x f.inside b.0) f.guards f.keeps a.0 u (follows_more ds around (also around lanes.var) (renamed pairs) (λ v a. or_true (nat_eq v lanes.var) (around v) a) (renamed pairs u) k))
+            (value_below (also around lanes.var) (slice_set slots lanes.var x) (lane_inside lanes.var x f.inside b.0) f.guards f.keeps a.0 u (follows_more ds around (also around lanes.var) (renamed pairs) (λ v a. or_right (nat_eq v lanes.var) (around v) a) (renamed pairs u) k))
 
     -- and with a valid value of the substituted loop
     pub lane_below_there : (lanes : Lanes) → LeafFacts s ds slots around pairs leaf (Some lanes) → GuardsHold (inside_tests (world_of stored s) ds) leaf pairs slots (Some lanes) → (x : ℕ) → is_among x lanes.valid ≡ true → (u : ℕ)

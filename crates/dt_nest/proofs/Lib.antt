@@ -43,3 +43,6 @@ pub mod PathDepths
 pub mod PathUnions
 pub mod PathFans
 pub mod PointFacts
+pub mod LawfulFit
+pub mod ZerosFit
+pub mod Marked

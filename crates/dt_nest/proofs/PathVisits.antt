@@ -11,17 +11,11 @@ use Rattle.dt_nest.specs.Visits.{Scope, at_root, entered, Item, Tests, tests_of,
 use Rattle.dt_nest.proofs.Moves.{range-add}
 use Rattle.dt_nest.specs.Paths.{HasLoops, extent_inside}
 use Rattle.dt_nest.specs.PathLaws.{VisitsFollowPaths}
+use Rattle.dt_base.proofs.Ranges.{range_with_len-below}
 
 pub if_false : {X : Type 0} (b : Bool) (x y : X) → b ≡ false → (if b then x else y) ≡ y
 if_false true x y e = absurd (cc)
 if_false false x y e = refl
-
--- the numbers below n, in both forms
-pub range-below : (n : ℕ) → range_with_len 0 n ≡ below n
-range-below zero = refl
-range-below (suc n) =
-    let e : n + 1 ≡ suc n = omega arith in let g : 0 + n ≡ n = omega arith in
-    ap (range_with_len 0) (sym e) ∙ range-add 0 n 1 ∙ ap (λ (k : ℕ). range_with_len 0 n ++ k ∷ []) g ∙ ap (λ (l : List ℕ). l ++ n ∷ []) (range-below n)
 
 -- equal functions make equal lists
 pub flat_same : {X Y : Type 0} (f g : X → List Y) → ((i : X) → f i ≡ g i) → (xs : List X) → flat_map f xs ≡ flat_map g xs
@@ -53,7 +47,7 @@ module _ (t : Tests) where
       → tree_visits t tree scope slots path ≡ flat_map (λ i. tree_visits t tree scope slots (path ++ i ∷ [])) (below (extent_inside (length path) tree))
   tree_step (Loop v n walk body) scope slots [] h =
       loop_visits v n walk body scope slots [] h.0
-      ∙ ap (flat_map (Step walk v body scope slots [])) (range-below n)
+      ∙ ap (flat_map (Step walk v body scope slots [])) (range_with_len-below n)
       ∙ flat_same (Step walk v body scope slots []) (λ i. tree_visits t (Loop v n walk body) scope slots (i ∷ [])) (λ i. sym (value_visits v n walk body scope slots i [] h.0)) (below n)
   tree_step (Loop v n walk body) scope slots (x ∷ path) h =
       value_visits v n walk body scope slots x path h.0

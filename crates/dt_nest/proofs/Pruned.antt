@@ -3,7 +3,7 @@ use Rattle.std.proofs.Common.{◌≡◌, ◌⊎◌, inl, inr, ℕ, ◌<◌, ◌�
 use Rattle.std.specs.Prelude.{if◌then◌else◌, MatchBool, IsSome, nat_eq, nat_lt, nat_le, slice_index, slice_set}
 use Rattle.std.specs.List.{AllByRecursion, flat_map, list_all, range_with_len}
 use Rattle.std.proofs.Math.Path.{fun_ext}
-use Rattle.std.proofs.lemmas.Bool.{eqb-true, eq-eqb, lt-ltb}
+use Rattle.std.proofs.lemmas.Bool.{eqb-true, eq-eqb, lt-ltb, or_right}
 use Rattle.std.proofs.lemmas.List.{get_or-set_other, length-map}
 use Rattle.dt_model.specs.Shape.{are_extents, is_extent}
 use Rattle.dt_base.specs.Rows.{product}
@@ -15,7 +15,8 @@ use Rattle.dt_nest.specs.declared.derivations.Derived.{Derived}
 use Rattle.dt_nest.specs.Tree.{Tree, Loop, Pre, Leaf, is_kernel_leaf}
 use Rattle.dt_nest.specs.Schedule.{Schedule}
 use Rattle.dt_nest.specs.Meaning.{Env, known, renamed, under, guards_hold, take_through}
-use Rattle.dt_nest.specs.World.{world_of, FitsWalk, FitsWalks}
+use Rattle.dt_nest.specs.World.{world_of}
+use Rattle.dt_nest.proofs.LawfulFit.{FitsWalk, FitsWalks, walks_fit}
 use Rattle.dt_nest.specs.FitsStored.{FitsStored}
 use Rattle.dt_nest.specs.Lawful.{WalkBelow, IsNamed, sources, is_replaced, AreOrdered, AreLoops, Loops, also, Follows, take_before, WalkFollows, AllFollow, AreGuarded, HaveGuards, IsLawful}
 use Rattle.dt_nest.proofs.Inside.{guard_holds, renamed_extents}
@@ -34,10 +35,6 @@ flat_none f (x ∷ xs) h = ap (λ (l : List Item). l ++ flat_map f xs) (h x) ∙
 filter_none : (p : ℕ → Bool) (xs : List ℕ) → ((x : ℕ) → p x ≡ false) → filter p xs ≡ []
 filter_none p [] h = refl
 filter_none p (x ∷ xs) h = ap (λ (b : Bool). if b then x ∷ filter p xs else filter p xs) (h x) ∙ filter_none p xs h
-
-or_true : (b c : Bool) → c ≡ true → (b || c) ≡ true
-or_true true c e = refl
-or_true false c e = e
 
 and_false : (b c : Bool) → c ≡ false → (b && c) ≡ false
 and_false true c e = e
@@ -69,7 +66,7 @@ module _ (stored : List StoredTensor) (s : Schedule) (each : (t : ℕ) → t < l
       record {
         var = o.var;
         split = o.split;
-        follows = follows_more ds around (also around v) (renamed pairs) (λ u a. or_true (nat_eq u v) (around u) a) o.var o.follows;
+        follows = follows_more ds around (also around v) (renamed pairs) (λ u a. or_right (nat_eq u v) (around u) a) o.var o.follows;
         past = subst (λ (n : ℕ). slice_index s.extents o.var ≤ n) same o.past;
       }
     where
@@ -202,7 +199,7 @@ module _ (stored : List StoredTensor) (s : Schedule) (each : (t : ℕ) → t < l
           → (AllByRecursion (λ u. Follows ds around name (name u)) (take_before (λ u. nat_eq (name u) v) vars) → AllByRecursion (λ u. Follows ds (also around v) name (name u)) (take_through (λ u. nat_eq (name u) v) vars))
           → Follows ds (also around v) name (name x) × AllByRecursion (λ u. Follows ds (also around v) name (name u)) (if b then [] else take_through (λ u. nat_eq (name u) v) vars)
       go true e f k = (subst (Follows ds (also around v) name) (sym (e refl)) loop, tt)
-      go false e f k = (follows_more ds around (also around v) name (λ u a. or_true (nat_eq u v) (around u) a) (name x) f.0, k f.1)
+      go false e f k = (follows_more ds around (also around v) name (λ u a. or_right (nat_eq u v) (around u) a) (name x) f.0, k f.1)
 
   and_left : (a b : Bool) → (a && b) ≡ true → a ≡ true
   and_left true b e = refl
@@ -311,4 +308,4 @@ pub visits_inside : (s : Schedule) (stored : List StoredTensor) (path : List ℕ
 unfolding visits_of
 visits_inside s stored path l f =
     same_visits stored s (stored_each stored s f) s.derived l.ordered
-    s.nest (λ u. false) at_root (no_slots s) path l.named f.walks l.follows l.guards l.loops (λ u a. absurd (cc)) (λ u. refl)
+    s.nest (λ u. false) at_root (no_slots s) path l.named (walks_fit stored s s.nest f.accesses l.walks) l.follows l.guards l.loops (λ u a. absurd (cc)) (λ u. refl)

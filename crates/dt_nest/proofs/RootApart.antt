@@ -4,7 +4,7 @@ use Rattle.std.specs.Prelude.{if◌then◌else◌, nat_eq, nat_lt}
 use Rattle.std.specs.List.{AllByRecursion, list_any}
 use Rattle.std.proofs.Math.Path.{fun_ext}
 use Rattle.std.proofs.Math.Nat.{add-mod-mod}
-use Rattle.std.proofs.lemmas.Bool.{eqb-true, ltb-true, ltb-false, ne_eqb}
+use Rattle.std.proofs.lemmas.Bool.{eqb-true, ltb-true, ltb-false, ne_eqb, or_from}
 use Rattle.std.proofs.lemmas.List.{length-replicate}
 use Rattle.dt_model.specs.Positions.{StoredTensor}
 use Rattle.dt_model.specs.declared.stmt.Access.{Access}
@@ -18,8 +18,9 @@ use Rattle.dt_nest.specs.Visits.{at_root, no_slots, tests_of, tree_visits, visit
 use Rattle.dt_nest.specs.Effects.{entries_after, VisitsAddTheSum, SumReadsTensors}
 use Rattle.dt_nest.specs.Outputs.{output_of, reads_of, IsUnread}
 use Rattle.dt_nest.proofs.OwnSlots.{have_slots, zero_at}
-use Rattle.dt_nest.proofs.Congruence.{like_same, is_read, reads_free, nest_sum-like}
+use Rattle.dt_nest.proofs.Congruence.{like_same, is_read, reads_free, nest_sum-like, read_first, read_second}
 use Rattle.dt_nest.proofs.Additions.{Adds, IsApart, tree_adds}
+use Rattle.dt_nest.proofs.Truth.{or_either}
 
 -- a workspace that isn't the schedule's has no node
 nodes_named : (s : Schedule) (tree : Tree) (k : ℕ) → IsNamed s tree → length s.works ≤ k → nodes_with k tree ≡ 0
@@ -31,55 +32,31 @@ nodes_named s (Pre work pairs p q) k h l = go (nat_eq work k) (ne_eqb work k (λ
     go false e i j = omega (arith, i, j)
 nodes_named s (Leaf lhs terms guards kernel) k h l = refl
 
-or_cases : (A : Type 0) (a b : Bool) → (a || b) ≡ true → (a ≡ true → A) → (b ≡ true → A) → A
-or_cases A true b e f g = f refl
-or_cases A false b e f g = g e
-
-or_false : (a b : Bool) → a ≡ false → b ≡ false → (a || b) ≡ false
-or_false true b e f = absurd (cc)
-or_false false b e f = f
-
 read_below : (n u : ℕ) (works : List ℕ) (accesses : List Access) → AllByRecursion (IsOneOf n works) accesses → is_read u accesses ≡ true → list_any (λ w. nat_eq u (n + w)) works ≡ false → u < n
 read_below n u works [] h e f = absurd (cc)
-read_below n u works (a ∷ accesses) h e f = or_cases (u < n) (nat_eq a.tensor u) (is_read u accesses) e (λ t. here (eqb-true a.tensor u t)) (λ t. read_below n u works accesses h.1 t f)
+read_below n u works (a ∷ accesses) h e f = or_either (u < n) (nat_eq a.tensor u) (is_read u accesses) e (λ t. here (eqb-true a.tensor u t)) (λ t. read_below n u works accesses h.1 t f)
   where
     here : a.tensor ≡ u → u < n
-    here i = or_cases (u < n) (nat_lt u n) (list_any (λ w. nat_eq u (n + w)) works) (subst (λ (t : ℕ). (nat_lt t n || list_any (λ w. nat_eq t (n + w)) works) ≡ true) i h.0) (λ t. ltb-true u n t) (λ t. absurd (cc))
+    here i = or_either (u < n) (nat_lt u n) (list_any (λ w. nat_eq u (n + w)) works) (subst (λ (t : ℕ). (nat_lt t n || list_any (λ w. nat_eq t (n + w)) works) ≡ true) i h.0) (λ t. ltb-true u n t) (λ t. absurd (cc))
 
 -- what a tree reads and doesn't make is a tensor
 pub free_below : (n u : ℕ) (tree : Tree) (written read : List ℕ) → WorksStand n tree written read → reads_free n u tree ≡ true → list_any (λ w. nat_eq u (n + w)) read ≡ false → u < n
 free_below n u (Loop v m walk body) written read h e f = free_below n u body written read h e f
 free_below n u (Pre work pairs p q) written read h e f =
-    or_cases (u < n) (reads_free n u p) (not (nat_eq u (n + work)) && reads_free n u q) e (λ t. free_below n u p (work ∷ written) read h.0 t f)
-    (λ t. let k = both (nat_eq u (n + work)) (reads_free n u q) t in free_below n u q written (work ∷ read) h.1 k.1 (or_false (nat_eq u (n + work)) (list_any (λ w. nat_eq u (n + w)) read) k.0 f))
+    or_either (u < n) (reads_free n u p) (not (nat_eq u (n + work)) && reads_free n u q) e (λ t. free_below n u p (work ∷ written) read h.0 t f)
+    (λ t. let k = both (nat_eq u (n + work)) (reads_free n u q) t in free_below n u q written (work ∷ read) h.1 k.1 (or_from (nat_eq u (n + work)) (list_any (λ w. nat_eq u (n + w)) read) k.0 f))
   where
     both : (a b : Bool) → (not a && b) ≡ true → (a ≡ false) × (b ≡ true)
     both true b e = absurd (cc)
     both false b e = (refl, e)
 free_below n u (Leaf lhs terms guards kernel) written read h e f = read_below n u read (read_accesses terms) h.1 e f
 
-any_append : (u : ℕ) (xs ys : List Access) → is_read u xs ≡ true → is_read u (xs ++ ys) ≡ true
-any_append u [] ys e = absurd (cc)
-any_append u (x ∷ xs) ys e = go (nat_eq x.tensor u) e (λ e. any_append u xs ys e)
-  where
-    go : (b : Bool) → (b || is_read u xs) ≡ true → (is_read u xs ≡ true → is_read u (xs ++ ys) ≡ true) → (b || is_read u (xs ++ ys)) ≡ true
-    go true e r = refl
-    go false e r = r e
-
-any_later : (u : ℕ) (xs ys : List Access) → is_read u ys ≡ true → is_read u (xs ++ ys) ≡ true
-any_later u [] ys e = e
-any_later u (x ∷ xs) ys e = go (nat_eq x.tensor u) (any_later u xs ys e)
-  where
-    go : (b : Bool) → is_read u (xs ++ ys) ≡ true → (b || is_read u (xs ++ ys)) ≡ true
-    go true e = refl
-    go false e = e
-
 -- and some leaf reads it
 free_read : (n u : ℕ) (tree : Tree) → reads_free n u tree ≡ true → is_read u (reads_of tree) ≡ true
 free_read n u (Loop v m walk body) e = free_read n u body e
 free_read n u (Pre work pairs p q) e =
-    or_cases (is_read u (reads_of p ++ reads_of q) ≡ true) (reads_free n u p) (not (nat_eq u (n + work)) && reads_free n u q) e (λ t. any_append u (reads_of p) (reads_of q) (free_read n u p t))
-    (λ t. any_later u (reads_of p) (reads_of q) (free_read n u q (and_right (not (nat_eq u (n + work))) (reads_free n u q) t)))
+    or_either (is_read u (reads_of p ++ reads_of q) ≡ true) (reads_free n u p) (not (nat_eq u (n + work)) && reads_free n u q) e (λ t. read_first u (reads_of p) (reads_of q) (free_read n u p t))
+    (λ t. read_second u (reads_of p) (reads_of q) (free_read n u q (and_right (not (nat_eq u (n + work))) (reads_free n u q) t)))
   where
     and_right : (a b : Bool) → (a && b) ≡ true → b ≡ true
     and_right true b e = e
@@ -90,7 +67,7 @@ free_read n u (Leaf lhs terms guards kernel) e = e
 pub output_below : (n : ℕ) (tree : Tree) (read : List ℕ) → WorksStand n tree [] read → output_of tree < n
 output_below n (Loop v m walk body) read h = output_below n body read h
 output_below n (Pre work pairs p q) read h = output_below n q (work ∷ read) h.1
-output_below n (Leaf lhs terms guards kernel) read h = or_cases (lhs.tensor < n) (nat_lt lhs.tensor n) false h.0 (λ t. ltb-true lhs.tensor n t) (λ t. absurd (cc))
+output_below n (Leaf lhs terms guards kernel) read h = or_either (lhs.tensor < n) (nat_lt lhs.tensor n) false h.0 (λ t. ltb-true lhs.tensor n t) (λ t. absurd (cc))
 
 module _ (stored : List StoredTensor) (s : Schedule) (lawful : IsLawful s) (unread : IsUnread (output_of s.nest) s.nest) where
   -- in a lawful schedule what is written stands apart from what is read

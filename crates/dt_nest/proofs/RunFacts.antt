@@ -22,6 +22,7 @@ use Rattle.dt_nest.specs.Run.{run_over, IsAtLeaf, OnLanes, HasValue, HasLaneValu
 use Rattle.dt_nest.specs.Visited.{IsKept}
 use Rattle.dt_nest.specs.Tables.{tabled}
 use Rattle.dt_nest.specs.Wheels.{AreWheels}
+use Rattle.dt_nest.proofs.LawfulFit.{lawful_coordinates}
 use Rattle.dt_nest.proofs.OwnSlots.{none_entered}
 use Rattle.dt_nest.proofs.Holding.{visits_hold}
 use Rattle.dt_nest.proofs.LeafFacts.{leaf-node, LaneFollows, LaneIs, lane_is, LeafFacts, leaf_facts, value_there, lane_value_there, below_there, lane_below_there}
@@ -210,7 +211,7 @@ module _ (stored : List StoredTensor) (s : Schedule) (path slots : List ℕ) (p 
       go (Resetting leaf past work) i a v = absurd a
       go (On leaf) i a v =
           subst (λ (m : ℕ). m < slice_index s.extents u) (sym v)
-          (below_there stored s (stored_each stored s i.on.fits) s.derived i.on.lawful.ordered (pairs_at s.nest leaf) slots i.on.lawful.derived i.on.fits.positions (among (loops_at s.nest [] leaf)) (node_at s.nest leaf) (lanes_at (run_tests stored s) s.nest [] slots leaf) (facts leaf i.on.stands.0) i.last u a)
+          (below_there stored s (stored_each stored s i.on.fits) s.derived i.on.lawful.ordered (pairs_at s.nest leaf) slots i.on.lawful.derived (lawful_coordinates stored s i.on.lawful i.on.fits) (among (loops_at s.nest [] leaf)) (node_at s.nest leaf) (lanes_at (run_tests stored s) s.nest [] slots leaf) (facts leaf i.on.stands.0) i.last u a)
       go Done i a v = absurd a
 
   lane_below : (leaf x u n : ℕ) (lanes : Option Lanes) → LeafFacts s s.derived slots (among (loops_at s.nest [] leaf)) (pairs_at s.nest leaf) (node_at s.nest leaf) lanes → GuardsHold (run_tests stored s) (node_at s.nest leaf) (pairs_at s.nest leaf) slots lanes
@@ -219,7 +220,7 @@ module _ (stored : List StoredTensor) (s : Schedule) (path slots : List ℕ) (p 
   lane_below leaf x u n None f h m k e = absurd m
   lane_below leaf x u n (Some lanes) f h m k e =
       subst (λ (m : ℕ). m < slice_index s.extents u) (sym e)
-      (lane_below_there stored s (stored_each stored s i.on.fits) s.derived i.on.lawful.ordered (pairs_at s.nest leaf) slots i.on.lawful.derived i.on.fits.positions (among (loops_at s.nest [] leaf)) (node_at s.nest leaf) lanes f h x m u k)
+      (lane_below_there stored s (stored_each stored s i.on.fits) s.derived i.on.lawful.ordered (pairs_at s.nest leaf) slots i.on.lawful.derived (lawful_coordinates stored s i.on.lawful i.on.fits) (among (loops_at s.nest [] leaf)) (node_at s.nest leaf) lanes f h x m u k)
 
   -- and so is one with a valid value of the substituted loop
   pub lane_value_below : (x u n : ℕ) → OnLanes (run_of stored s path slots p) (λ lanes. is_among x lanes.valid ≡ true) → HasLaneValue (run_of stored s path slots p) u → IsLaneValue (run_of stored s path slots p) x u n → n < slice_index s.extents u

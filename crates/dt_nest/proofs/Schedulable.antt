@@ -8,13 +8,9 @@ use Rattle.dt_model.specs.declared.stmt.Access.{Access}
 use Rattle.dt_model.specs.declared.stmt.Factor.{Factor}
 use Rattle.dt_model.specs.declared.stmt.Factor.TheVariants.{Read, Literal}
 use Rattle.dt_model.specs.declared.stmt.Stmt.{Stmt}
-use Rattle.dt_nest.proofs.Each.{all_flat}
+use Rattle.dt_nest.proofs.Each.{all_flat, all_of}
 use Rattle.dt_nest.specs.Tree.{factor_accesses, read_accesses}
 use Rattle.dt_nest.specs.Chain.{IsAccessOf, IsSchedulable}
-
-all_of : {X : Type 0} (P : X → Type 0) (xs : List X) → All P xs → AllByRecursion P xs
-all_of P [] h = tt
-all_of P (x ∷ xs) h = (h 0 x (omega arith), all_of P xs (λ k d l. h (suc k) d (omega arith)))
 
 get_exists : {X : Type 0} (xs : List X) (k : ℕ) (y : X) → slice_get xs k ≡ Some y → k < length xs
 get_exists [] k y e = absurd (cc)

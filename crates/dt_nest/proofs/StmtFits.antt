@@ -11,16 +11,11 @@ use Rattle.dt_model.specs.declared.stmt.Stmt.{Stmt}
 use Rattle.dt_model.specs.declared.stmt.Term.{Term}
 use Rattle.dt_nest.specs.declared.loops.Kernel.TheVariants.{Plain}
 use Rattle.dt_nest.specs.Chain.{chain, stmt_schedule}
-use Rattle.dt_nest.proofs.Each.{all_flat, all_map}
+use Rattle.dt_nest.proofs.Each.{all_flat, all_map, all_of}
 use Rattle.dt_nest.specs.FitsStored.{FitsStored}
 use Rattle.dt_nest.specs.Tree.{Tree, Leaf, accesses_of, factor_accesses, read_accesses}
-use Rattle.dt_nest.specs.World.{FitsWalks}
 use Rattle.dt_nest.specs.Schedule.{Schedule}
-
--- a fact at each index is one of each element
-all_of : {X : Type 0} (P : X → Type 0) (xs : List X) → All P xs → AllByRecursion P xs
-all_of P [] h = tt
-all_of P (x ∷ xs) h = (h 0 x (omega arith), all_of P xs (λ k d l. h (suc k) d (omega arith)))
+use Rattle.dt_nest.proofs.ChainLawful.{accesses-chain}
 
 -- the extents of the tensor with a number
 shape_of : (stored : List StoredTensor) (k : ℕ) (x : List ℕ) → slice_get (map (λ (t : StoredTensor). t.extents) stored) k ≡ Some x → (tensor_at stored k).extents ≡ x
@@ -47,16 +42,6 @@ accesses_fit stored s h =
           s.terms (all_of (IsTerm shapes s.extents) s.terms h.terms),
     )
 
--- loops around a tree add no access
-accesses_of-chain : (v : ℕ) (ns : List ℕ) (tree : Tree) → accesses_of (chain v ns tree) ≡ accesses_of tree
-accesses_of-chain v [] tree = refl
-accesses_of-chain v (n ∷ ns) tree = accesses_of-chain (suc v) ns tree
-
--- and no walk
-chain_walks : (stored : List StoredTensor) (s : Schedule) (v : ℕ) (ns : List ℕ) (tree : Tree) → FitsWalks stored s tree → FitsWalks stored s (chain v ns tree)
-chain_walks stored s v [] tree h = h
-chain_walks stored s v (n ∷ ns) tree h = (tt, chain_walks stored s (suc v) ns tree h)
-
 -- the schedule of a statement over tensors fits them, where each stores what its levels ask for
 pub stmt_fits : (stored : List StoredTensor) (s : Stmt) (vars names : List (List ℕ)) → IsStmt (map (λ (t : StoredTensor). t.extents) stored) s → length stored ≡ length names → AllByRecursion IsStored stored
     → FitsStored stored (stmt_schedule s vars names)
@@ -66,7 +51,6 @@ stmt_fits stored s vars names h count levels = record {
   levels = levels;
   accesses = all_map (Fitting stored s.extents) (λ a. a.tensor < length names → (tensor_at stored a.tensor).extents ≡ map (λ v. slice_index s.extents v) a.vars) (λ a e l. e)
       (accesses_of (chain 0 s.extents (Leaf s.lhs s.terms [] Plain)))
-      (subst (λ (l : List Access). AllByRecursion (Fitting stored s.extents) l) (sym (accesses_of-chain 0 s.extents (Leaf s.lhs s.terms [] Plain))) (accesses_fit stored s h));
-  walks = chain_walks stored (record { nest = chain 0 s.extents (Leaf s.lhs s.terms [] Plain); derived = []; distributed = 0; moved = []; tensors = names; names = vars; extents = s.extents; works = [] }) 0 s.extents (Leaf s.lhs s.terms [] Plain) tt;
+      (subst (λ (l : List Access). AllByRecursion (Fitting stored s.extents) l) (sym (accesses-chain 0 s.extents (Leaf s.lhs s.terms [] Plain))) (accesses_fit stored s h));
   positions = tt;
 }

@@ -2,43 +2,11 @@
 use Rattle.std.proofs.Common.{◌≡◌, ℕ, ◌<◌, ◌≤◌, Bool, true, false, ◌||◌, ◌&&◌, List, [], ◌∷◌, refl}
 use Rattle.std.specs.Prelude.{not, nat_lt}
 use Rattle.std.specs.List.{AllByRecursion, list_any}
-use Rattle.std.proofs.lemmas.Bool.{ltb-true, ltb-false}
-
-pub or_first : (a b : Bool) → a ≡ true → (a || b) ≡ true
-or_first true b h = refl
-or_first false b h = absurd (cc)
-
-pub or_second : (a b : Bool) → b ≡ true → (a || b) ≡ true
-or_second true b h = refl
-or_second false b h = h
-
-pub or_neither : (a b : Bool) → (a || b) ≡ false → (a ≡ false) × (b ≡ false)
-or_neither true b h = absurd (cc)
-or_neither false b h = (refl, h)
-
-pub neither_or : (a b : Bool) → a ≡ false → b ≡ false → (a || b) ≡ false
-neither_or true b h k = absurd (cc)
-neither_or false b h k = k
+use Rattle.std.proofs.lemmas.Bool.{ltb-true, ltb-false, or_left, or_right, or_parts, or_from}
 
 pub or_either : (R : Type 0) (a b : Bool) → (a || b) ≡ true → (a ≡ true → R) → (b ≡ true → R) → R
 or_either R true b h f g = f refl
 or_either R false b h f g = g h
-
-pub and_both : (a b : Bool) → (a && b) ≡ true → (a ≡ true) × (b ≡ true)
-and_both true b h = (refl, h)
-and_both false b h = absurd (cc)
-
-pub both_and : (a b : Bool) → a ≡ true → b ≡ true → (a && b) ≡ true
-both_and true b h k = k
-both_and false b h k = absurd (cc)
-
-pub not_true : (a : Bool) → not a ≡ true → a ≡ false
-not_true true h = absurd (cc)
-not_true false h = refl
-
-pub true_not : (a : Bool) → a ≡ false → not a ≡ true
-true_not true h = absurd (cc)
-true_not false h = refl
 
 -- a number is below a bound or not
 pub below_or_past : (R : Type 0) (u k : ℕ) → (u < k → R) → (k ≤ u → R) → R
@@ -63,20 +31,20 @@ pub any_more : {X : Type 0} (p q : X → Bool) → ((x : X) → p x ≡ true →
 any_more p q f [] h = h
 any_more p q f (x ∷ xs) h =
     or_either (list_any q (x ∷ xs) ≡ true) (p x) (list_any p xs) h
-    (λ e. or_first (q x) (list_any q xs) (f x e)) (λ e. or_second (q x) (list_any q xs) (any_more p q f xs e))
+    (λ e. or_left (q x) (list_any q xs) (f x e)) (λ e. or_right (q x) (list_any q xs) (any_more p q f xs e))
 
 -- a test that passes what the first passes where the fact holds
 pub any_where : {X : Type 0} (p q : X → Bool) (P : X → Type 0) → ((x : X) → p x ≡ true → P x → q x ≡ true) → (xs : List X) → list_any p xs ≡ true → AllByRecursion P xs → list_any q xs ≡ true
 any_where p q P f [] h a = h
 any_where p q P f (x ∷ xs) h a =
     or_either (list_any q (x ∷ xs) ≡ true) (p x) (list_any p xs) h
-    (λ e. or_first (q x) (list_any q xs) (f x e a.0)) (λ e. or_second (q x) (list_any q xs) (any_where p q P f xs e a.1))
+    (λ e. or_left (q x) (list_any q xs) (f x e a.0)) (λ e. or_right (q x) (list_any q xs) (any_where p q P f xs e a.1))
 
 -- no element passes the test
 pub any_none : {X : Type 0} (p : X → Bool) (xs : List X) → list_any p xs ≡ false → AllByRecursion (λ x. p x ≡ false) xs
 any_none p [] h = tt
-any_none p (x ∷ xs) h = let o = or_neither (p x) (list_any p xs) h in (o.0, any_none p xs o.1)
+any_none p (x ∷ xs) h = let o = or_parts (p x) (list_any p xs) h in (o.0, any_none p xs o.1)
 
 pub none_any : {X : Type 0} (p : X → Bool) (xs : List X) → AllByRecursion (λ x. p x ≡ false) xs → list_any p xs ≡ false
 none_any p [] h = refl
-none_any p (x ∷ xs) h = neither_or (p x) (list_any p xs) h.0 (none_any p xs h.1)
+none_any p (x ∷ xs) h = or_from (p x) (list_any p xs) h.0 (none_any p xs h.1)

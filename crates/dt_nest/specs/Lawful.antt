@@ -1,6 +1,6 @@
 -- What holds of each schedule.
 use Rattle.std.specs.Prelude.{◌≡◌, ℕ, zero, suc, ◌+◌, ◌-◌, ◌*◌, ◌<◌, ◌≤◌, ◌^◌, Bool, true, false, ◌||◌, List, [], ◌∷◌, ◌++◌, length, map, count_by, Option, Some, None, MatchBool, if◌then◌else◌, nat_eq, nat_lt, slice_index, slice_get}
-use Rattle.std.specs.List.{AllByRecursion, IsDistinct, list_any}
+use Rattle.std.specs.List.{AllByRecursion, Contains, IsDistinct, list_any}
 use Rattle.std.specs.Str.{bytes_eq}
 use Rattle.dt_base.specs.Rows.{product}
 use Rattle.dt_model.specs.declared.stmt.Access.{Access}
@@ -50,6 +50,28 @@ IsNamed s (Pre work pairs producer consumer) =
     (work < length s.works) × ArePairs s pairs × IsNamed s producer × IsNamed s consumer
 IsNamed s (Leaf lhs terms guards kernel) =
     AllByRecursion (AccessBelow (length s.names) (length s.tensors + length s.works)) (lhs ∷ read_accesses terms) × AllByRecursion (λ u. u < length s.names) guards
+
+-- Walked accesses and coordinates --------------------------------------------------------------------------------------
+
+-- a walked access is that of some leaf below its loop
+abbrev pub WalkAppears : Option Walk → Tree → Type 0
+WalkAppears None body = Unit {0}
+WalkAppears (Some k) body = Contains (accesses_of body) (record { tensor = k.tensor; vars = k.vars })
+
+-- so is each walked access of a tree
+abbrev pub WalksAppear : Tree → Type 0
+WalksAppear (Loop v n walk body) = WalkAppears walk body × WalksAppear body
+WalksAppear (Pre work pairs producer consumer) = WalksAppear producer × WalksAppear consumer
+WalksAppear (Leaf lhs terms guards kernel) = Unit {0}
+
+-- a variable that is a coordinate of a tensor's position is the one at its level in some access of the tensor
+abbrev pub CoordinateAppears : List Access → ℕ → Derive → Type 0
+CoordinateAppears accesses v (Split outer inner factor) = Unit {0}
+CoordinateAppears accesses v (Quotient fused by) = Unit {0}
+CoordinateAppears accesses v (Rest fused by) = Unit {0}
+CoordinateAppears accesses v (Rotate base by extent) = Unit {0}
+CoordinateAppears accesses v (Pos tensor level base) =
+    (a : Access) × Contains accesses a × (a.tensor ≡ tensor) × (slice_get a.vars level ≡ Some v)
 
 -- Derivations ---------------------------------------------------------------------------------------------------------
 
@@ -118,7 +140,7 @@ take_before p (x ∷ xs) = if p x then [] else x ∷ take_before p xs
 abbrev pub WalkFollows : List Derived → Option Walk → ℕ → Loops → Env → Type 0
 WalkFollows ds None v around name = Unit {0}
 WalkFollows ds (Some k) v around name =
-    (count_by (λ u. nat_eq (name u) v) k.vars ≡ 1) × AllByRecursion (λ u. Follows ds around name (name u)) (take_before (λ u. nat_eq (name u) v) k.vars)
+    (count_by (λ u. nat_eq u v) k.vars ≡ 1) × AllByRecursion (λ u. Follows ds around name (name u)) (take_before (λ u. nat_eq (name u) v) k.vars)
 
 -- Loops differ from those around them and have no new name, and each variable of an access or guard follows from the
 -- loops around it. What follows from the loops around a producer has no new name there.
@@ -246,6 +268,8 @@ pub record IsLawful (s : Schedule) : Type 0 where
   pub differ : (u : ℕ) → times u s.nest ≤ 1
   pub names : HasNames s
   pub named : IsNamed s s.nest
+  pub walks : WalksAppear s.nest
+  pub coordinates : AllByRecursion (λ d. CoordinateAppears (accesses_of s.nest) d.var d.how) s.derived
   pub derived : AreNamed s s.derived
   pub ordered : AreOrdered s.derived
   pub loops : AreLoops s.derived s.nest

@@ -1,13 +1,12 @@
 -- Schedules over tensors: what fits, and what a schedule adds.
-use Rattle.std.specs.Prelude.{◌≡◌, ℕ, ◌<◌, ◌%◌, ◌^◌, List, length, map, Option, Some, None, unwrap_or, slice_get, slice_index}
+use Rattle.std.specs.Prelude.{◌≡◌, ℕ, ◌<◌, ◌%◌, ◌^◌, false, List, ◌++◌, length, map, None, unwrap_or, slice_get, slice_index}
 use Rattle.std.specs.Option.{option_and_then}
 use Rattle.std.specs.List.{AllByRecursion}
 use Rattle.dt_model.specs.WholeTensor.{WholeTensor, number_at, IsWhole}
 use Rattle.dt_model.specs.Positions.{StoredTensor, IsStored, is_stored_prefix, coords_at, place_in, tensor_at}
-use Rattle.dt_nest.specs.declared.loops.Walk.{Walk}
 use Rattle.dt_nest.specs.declared.derivations.Derive.{Derive}
 use Rattle.dt_nest.specs.declared.derivations.Derive.TheVariants.{Split, Quotient, Rest, Rotate, Pos}
-use Rattle.dt_nest.specs.Tree.{Tree, Loop, Pre, Leaf, accesses_of}
+use Rattle.dt_nest.specs.Tree.{accesses_of}
 use Rattle.dt_nest.specs.Schedule.{Schedule}
 use Rattle.dt_nest.specs.Meaning.{World, Entries, nest_sum}
 
@@ -31,27 +30,13 @@ sum_of stored tensors s c = nest_sum (world_of stored s) s.derived s.nest (entri
 abbrev pub FitsAccess : List StoredTensor → Schedule → ℕ → List ℕ → Type 0
 FitsAccess stored s t vars = t < length s.tensors → (tensor_at stored t).extents ≡ map (λ v. slice_index s.extents v) vars
 
--- a walked access has the tensor's extents at its variables
-abbrev pub FitsWalk : List StoredTensor → Schedule → Option Walk → Type 0
-FitsWalk stored s None = Unit {0}
-FitsWalk stored s (Some k) = FitsAccess stored s k.tensor k.vars
-
--- so has each walked access of a tree
-abbrev pub FitsWalks : List StoredTensor → Schedule → Tree → Type 0
-FitsWalks stored s (Loop v n walk body) = FitsWalk stored s walk × FitsWalks stored s body
-FitsWalks stored s (Pre work pairs producer consumer) = FitsWalks stored s producer × FitsWalks stored s consumer
-FitsWalks stored s (Leaf lhs terms guards kernel) = Unit {0}
-
--- A loop over a tensor's positions has as many values as the tensor has positions, and the variable that is a coordinate
--- of the position has the tensor's extent at its level.
-abbrev pub FitsDerive : List StoredTensor → Schedule → ℕ → Derive → Type 0
-FitsDerive stored s v (Split outer inner factor) = Unit {0}
-FitsDerive stored s v (Quotient fused by) = Unit {0}
-FitsDerive stored s v (Rest fused by) = Unit {0}
-FitsDerive stored s v (Rotate base by extent) = Unit {0}
-FitsDerive stored s v (Pos tensor level base) =
-    (length (tensor_at stored tensor).coords ≡ slice_index s.extents base)
-    × (level < length (tensor_at stored tensor).extents) × (slice_index (tensor_at stored tensor).extents level ≡ slice_index s.extents v)
+-- a loop over a tensor's positions has as many values as the tensor has positions
+abbrev pub FitsDerive : List StoredTensor → Schedule → Derive → Type 0
+FitsDerive stored s (Split outer inner factor) = Unit {0}
+FitsDerive stored s (Quotient fused by) = Unit {0}
+FitsDerive stored s (Rest fused by) = Unit {0}
+FitsDerive stored s (Rotate base by extent) = Unit {0}
+FitsDerive stored s (Pos tensor level base) = length (tensor_at stored tensor).coords ≡ slice_index s.extents base
 
 -- Tensors fit a schedule: there is one for each name, with as many variables and with the extents where it is accessed,
 -- it stores what its levels ask for, and its numbers are 0 where nothing is stored.
@@ -62,5 +47,13 @@ pub record Fits (stored : List StoredTensor) (tensors : List WholeTensor) (s : S
   pub levels : AllByRecursion IsStored stored
   pub zeros : (t : ℕ) (c : List ℕ) → place_in (tensor_at stored t) c ≡ None → entries_of tensors t c ≡ 0
   pub accesses : AllByRecursion (λ a. FitsAccess stored s a.tensor a.vars) (accesses_of s.nest)
-  pub walks : FitsWalks stored s s.nest
-  pub positions : AllByRecursion (λ d. FitsDerive stored s d.var d.how) s.derived
+  pub positions : AllByRecursion (λ d. FitsDerive stored s d.how) s.derived
+
+-- the number of each tensor is 0 at all coordinates below a prefix that isn't stored
+abbrev pub AreZeros : World → Entries → Type 0
+AreZeros w x = (t : ℕ) (front rest : List ℕ) → t < w.tensors → w.stored t front ≡ false → x t (front ++ rest) ≡ 0
+
+-- So it is for tensors that fit a schedule.
+abbrev pub FittingAreZeros : Type 0
+FittingAreZeros =
+    (stored : List StoredTensor) (tensors : List WholeTensor) (s : Schedule) → Fits stored tensors s → AreZeros (world_of stored s) (entries_of tensors)

@@ -35,7 +35,7 @@ pub use commands::{Rewrite, RewriteEnd, rewritten};
 pub use communicate_loops::communicate_loop;
 pub use copies::{access_copied, names_copied, terms_copied};
 pub use derivations::{Derivations, Derive, Derived};
-pub use laws::{sum_reads_tensors, visits_add_the_sum};
+pub use laws::{fitting_are_zeros, sum_reads_tensors, visits_add_the_sum};
 pub use loops::{Kernel, Nest, Pair, Pairs, Walk, walk_copied};
 pub use odometer::has_kernel;
 pub use parts::{Moved, MovedList, SchedParts, Work, Works};

@@ -24,7 +24,6 @@ fits_over stored ts s f o = record {
   levels = f.levels;
   zeros = o.zeros;
   accesses = f.accesses;
-  walks = f.walks;
   positions = f.positions;
 }
 

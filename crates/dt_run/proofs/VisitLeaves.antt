@@ -17,7 +17,7 @@ use Rattle.dt_nest.specs.Schedule.{Schedule}
 use Rattle.dt_nest.specs.World.{world_of, FitsAccess}
 use Rattle.dt_nest.specs.Lawful.{AccessBelow, IsNamed, IsLawful}
 use Rattle.dt_nest.specs.Outputs.{output_of}
-use Rattle.dt_nest.proofs.Each.{all_append, all_map}
+use Rattle.dt_nest.proofs.Each.{all_append, all_map, all_flat_map}
 use Rattle.dt_nest.proofs.Truth.{all_and}
 use Rattle.dt_nest.proofs.Agree.{all_parts}
 use Rattle.dt_nest.proofs.NamedAccesses.{named_accesses}
@@ -33,10 +33,6 @@ abbrev pub LeavesOver : List (List ℕ) → Schedule → Tree → Type 0
 LeavesOver shapes s (Loop v n walk body) = LeavesOver shapes s body
 LeavesOver shapes s (Pre work pairs p q) = LeavesOver shapes s p × LeavesOver shapes s q
 LeavesOver shapes s (Leaf lhs terms guards kernel) = IsLeafOver shapes s (record { lhs = lhs; terms = terms; guards = guards; kernel = kernel })
-
-all_flat_map : (P : Item → Type 0) (f : ℕ → List Item) (xs : List ℕ) → ((x : ℕ) → AllByRecursion P (f x)) → AllByRecursion P (flat_map f xs)
-all_flat_map P f [] h = tt
-all_flat_map P f (x ∷ xs) h = all_append P (f x) (flat_map f xs) (h x) (all_flat_map P f xs h)
 
 module _ (t : Tests) (shapes : List (List ℕ)) (s : Schedule) where
   lane_over : (leaf : LeafNode) (scope : Scope) (slots : List ℕ) (v n : ℕ) (valid : List ℕ) → IsLeafOver shapes s leaf → AllByRecursion (IsItemOver shapes s) (lane_visit leaf scope slots v n valid)

@@ -82,6 +82,7 @@ collapse_is_cut c s l h = record {
     (grown c.outer (omega (arith, can.outer_below)), (grown k (omega arith), tt), (omega (arith, fused_extent, ap (λ z. z * m) (kept c.outer can.outer_below)))),
     ((grown c.inner (omega (arith, can.inner_below)), (grown k (omega arith), tt), ((λ p. right_above n m (omega (arith, fused_extent, p))), (omega (arith, kept c.inner can.inner_below)))), tt),
   );
+  coordinates = (tt, (tt, tt));
   guards = tt;
   guarded = ((λ e. absurd (cc)), ((λ e. absurd (cc)), tt));
 }

@@ -2,26 +2,22 @@
 use Rattle.std.proofs.Common.{◌≡◌, ℕ, zero, suc, ◌+◌, ◌-◌, ◌<◌, ◌≤◌, Bool, true, false, ◌&&◌, ◌||◌, not, List, [], ◌∷◌, ◌++◌, Option, Some, None, length, map, refl, sym, ap, ◌∙◌, subst, arith, append_assoc}
 use Rattle.std.specs.Prelude.{MatchBool, if◌then◌else◌, is_some, nat_eq, nat_lt}
 use Rattle.std.specs.List.{AllByRecursion, IsDistinct, list_any}
-use Rattle.std.proofs.lemmas.Bool.{eq-eqb, ne_eqb, ltb-true, and_parts, or_parts}
+use Rattle.std.proofs.lemmas.Bool.{eq-eqb, ne_eqb, ltb-true, and_parts, or_parts, not-false, not-true}
 use Rattle.std.proofs.lemmas.List.{append-nil, map-append}
 use Rattle.dt_model.specs.declared.cause.Cause.{Cause}
 use Rattle.dt_model.specs.declared.cause.Cause.TheVariants as cause
 use Rattle.dt_nest.specs.declared.parts.Moved.{Moved}
-use Rattle.dt_nest.specs.declared.loops.Walk.{Walk}
 use Rattle.dt_nest.proofs.Each.{all_append}
 use Rattle.dt_nest.specs.Tree.{Tree, Loop, Pre, Leaf, is_kernel_leaf, loop_count}
 use Rattle.dt_nest.specs.Schedule.{Schedule}
 use Rattle.dt_nest.specs.Lawful.{IsPlain, IsCommunicate, IsLawful}
 use Rattle.dt_nest.specs.Questions.{is_among, is_fixed, is_in, accesses_tensor}
 use Rattle.dt_nest.specs.Commands.{Keeps}
-use Rattle.dt_nest.proofs.KeptAccesses.{accesses_stay}
+use Rattle.dt_nest.proofs.Marked.{marked_lawful, marked_sum, marked_accesses, marked_fits}
 use Rattle.dt_rewrite.specs.declared.communicates.Communicate.{Communicate}
 use Rattle.dt_cuts.proofs.Passing.{all_pass, test_holds, none_with}
 use Rattle.dt_rewrite.specs.Communicates.{is_moved, communicated_tensor, communicate_tests, communicate_cause, communicate_effect, moves_at, tensor_name, communicate_rule}
-
-no_walk : (walk : Option Walk) → is_some walk ≡ false → walk ≡ None
-no_walk None e = refl
-no_walk (Some k) e = absurd (cc)
+use Rattle.dt_cuts.proofs.Stands.{no_walk}
 
 -- a loop outside every precompute node is a communicate loop, if it is none of the distributed ones but the last
 communicate_at : (k j m v : ℕ) (tree : Tree) → j ≡ k - 1 → is_among j v tree ≡ false → is_among m v tree ≡ true → is_fixed v tree ≡ false → IsCommunicate k v tree
@@ -94,56 +90,22 @@ every : (P : ℕ → Type 0) → ((t : ℕ) → P t) → (ts : List ℕ) → All
 every P h [] = tt
 every P h (t ∷ ts) = (h t, every P h ts)
 
-not_false : (b : Bool) → not b ≡ false → b ≡ true
-not_false true e = refl
-not_false false e = let t : true ≡ false = e in absurd (cc)
-
-not_true : (b : Bool) → not b ≡ true → b ≡ false
-not_true true e = let t : false ≡ true = e in absurd (cc)
-not_true false e = refl
-
 -- A communicate without a cause keeps the schedule lawful.
 pub communicate_lawful : (c : Communicate) (s : Schedule) → IsLawful s → communicate_cause c s ≡ None → IsLawful (communicate_effect c s)
-communicate_lawful c s l e = record {
-  few = l.few;
-  differ = l.differ;
-  names = record {
-    loops = l.names.loops;
-    tensors = l.names.tensors;
-    extents = l.names.extents;
-    few = l.names.few;
-    few_tensors = l.names.few_tensors;
-  };
-  named = l.named;
-  derived = l.derived;
-  ordered = l.ordered;
-  loops = l.loops;
-  follows = l.follows;
-  guards = l.guards;
-  distributed = l.distributed;
-  communicated = record {
-    loops = all_append _ s.moved (moves_at c.var c.tensors) l.communicated.loops (all_moves c.var _ (λ t. Unit {0}) (λ t h. at) c.tensors (every (λ t. Unit {0}) (λ t. tt) c.tensors));
-    accessed = all_append _ s.moved (moves_at c.var c.tensors) l.communicated.accessed (all_moves c.var _ _ (λ t h. accessed t h) c.tensors known);
-    once = subst (IsDistinct nat_eq) (ap (λ (x : List ℕ). x ++ c.tensors) (append-nil (movers s.moved)) ∙ ap (λ (x : List ℕ). movers s.moved ++ x) (sym (movers_of c.var c.tensors)) ∙ sym (map-append (λ (m : Moved). m.tensor) s.moved (moves_at c.var c.tensors)))
-        (moved_differ s [] c.tensors (subst (IsDistinct nat_eq) (sym (append-nil (movers s.moved))) l.communicated.once) tests.1.1.0);
-  };
-  kernels = l.kernels;
-  works = record {
-    once = l.works.once;
-    leaves = l.works.leaves;
-    stand = l.works.stand;
-    written = l.works.written;
-    small = l.works.small;
-    accesses = l.works.accesses;
-  };
-}
+communicate_lawful c s l e =
+    marked_lawful s.distributed (s.moved ++ moves_at c.var c.tensors) s l l.distributed (record {
+      loops = all_append _ s.moved (moves_at c.var c.tensors) l.communicated.loops (all_moves c.var _ (λ t. Unit {0}) (λ t h. at) c.tensors (every (λ t. Unit {0}) (λ t. tt) c.tensors));
+      accessed = all_append _ s.moved (moves_at c.var c.tensors) l.communicated.accessed (all_moves c.var _ _ (λ t h. accessed t h) c.tensors known);
+      once = subst (IsDistinct nat_eq) (ap (λ (x : List ℕ). x ++ c.tensors) (append-nil (movers s.moved)) ∙ ap (λ (x : List ℕ). movers s.moved ++ x) (sym (movers_of c.var c.tensors)) ∙ sym (map-append (λ (m : Moved). m.tensor) s.moved (moves_at c.var c.tensors)))
+          (moved_differ s [] c.tensors (subst (IsDistinct nat_eq) (sym (append-nil (movers s.moved))) l.communicated.once) tests.1.1.0);
+    })
   where
     tests : AllByRecursion (λ (test : Option Cause). test ≡ None) (communicate_tests c s)
     tests = all_pass (communicate_tests c s) e
 
     at : IsCommunicate s.distributed c.var s.nest
     at = communicate_at s.distributed (s.distributed - 1) (loop_count s.nest) c.var s.nest refl
-        (not_true (is_among (s.distributed - 1) c.var s.nest) (test_holds (not (is_among (s.distributed - 1) c.var s.nest)) (cause.NotBelowTask _) tests.1.1.1.0))
+        (not-true (is_among (s.distributed - 1) c.var s.nest) (test_holds (not (is_among (s.distributed - 1) c.var s.nest)) (cause.NotBelowTask _) tests.1.1.1.0))
         (test_holds (is_among (loop_count s.nest) c.var s.nest) (cause.BelowPre _) tests.1.1.1.1.0)
         (none_with (λ v. is_fixed v s.nest) _ (c.var ∷ []) tests.1.1.1.1.1.0).0
 
@@ -151,17 +113,16 @@ communicate_lawful c s l e = record {
     known = none_with (λ t. not (nat_lt t (length s.tensors) && accesses_tensor s.nest t)) _ c.tensors tests.1.0
 
     accessed : (t : ℕ) → not (nat_lt t (length s.tensors) && accesses_tensor s.nest t) ≡ false → (t < length s.tensors) × (accesses_tensor s.nest t ≡ true)
-    accessed t h = let p = and_parts (nat_lt t (length s.tensors)) (accesses_tensor s.nest t) (not_false (nat_lt t (length s.tensors) && accesses_tensor s.nest t) h) in (ltb-true t (length s.tensors) p.0, p.1)
+    accessed t h = let p = and_parts (nat_lt t (length s.tensors)) (accesses_tensor s.nest t) (not-false (nat_lt t (length s.tensors) && accesses_tensor s.nest t) h) in (ltb-true t (length s.tensors) p.0, p.1)
 
 -- A communicate without a cause keeps what a command owes.
 pub communicate_keeps : (c : Communicate) (s : Schedule) → IsLawful s → (c.var < length s.names) × AllByRecursion (λ t. t < length s.tensors + length s.works) c.tensors → communicate_cause c s ≡ None → Keeps (communicate_rule c) s
-communicate_keeps c s law known ok = record {
-  lawful = λ few. communicate_lawful c s law ok;
-  sum = record {
-    fits = λ stored tensors f. record { count = f.count; shapes = f.shapes; whole = f.whole; levels = f.levels; zeros = f.zeros; accesses = f.accesses; walks = f.walks; positions = f.positions };
-    sums = λ stored tensors at f. refl;
-  };
-  accesses = accesses_stay s (communicate_effect c s) refl refl refl refl;
-  fit = λ stored suits f. record { count = f.count; levels = f.levels; accesses = f.accesses; walks = f.walks; positions = f.positions };
-  grid = λ dims serves g. g;
-}
+communicate_keeps c s law known ok =
+    let moved = s.moved ++ moves_at c.var c.tensors in
+    record {
+      lawful = λ few. communicate_lawful c s law ok;
+      sum = marked_sum s.distributed moved s;
+      accesses = marked_accesses s.distributed moved s;
+      fit = λ stored suits f. marked_fits s.distributed moved s stored f;
+      grid = λ dims serves g. g;
+    }

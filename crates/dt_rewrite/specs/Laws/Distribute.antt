@@ -1,5 +1,5 @@
 -- A distribute without a cause keeps the schedule lawful; any keeps the sum.
-use Rattle.std.proofs.Common.{◌≡◌, ℕ, suc, ◌-◌, ◌≤◌, Bool, true, false, List, [], ◌∷◌, Option, Some, None, length, take, refl, sym, ap, ◌∙◌, subst, arith, inr, ◌<◌}
+use Rattle.std.proofs.Common.{◌≡◌, ℕ, suc, ◌-◌, ◌≤◌, Bool, true, false, List, [], ◌∷◌, Some, None, length, take, refl, sym, ap, ◌∙◌, subst, arith, inr, ◌<◌}
 use Rattle.std.specs.Prelude.{MatchBool, if◌then◌else◌, map, nat_eq, slice_index}
 use Rattle.std.specs.List.{AllByRecursion, list_any}
 use Rattle.std.proofs.lemmas.Bool.{eqb-true, eq-eqb, or_parts}
@@ -9,7 +9,7 @@ use Rattle.dt_nest.proofs.Each.{all_map}
 use Rattle.dt_nest.specs.Tree.{Tree, Loop, Pre, Leaf, loop_count}
 use Rattle.dt_nest.specs.Schedule.{Schedule}
 use Rattle.dt_nest.specs.Commands.{Keeps}
-use Rattle.dt_nest.proofs.KeptAccesses.{accesses_stay}
+use Rattle.dt_nest.proofs.Marked.{marked_lawful, marked_sum, marked_accesses, marked_fits}
 use Rattle.dt_nest.specs.Lawful.{IsPlain, AreDistributed, IsCommunicate, IsNamed, IsLawful}
 use Rattle.dt_nest.specs.Grid.{outer_extents}
 use Rattle.dt_nest.specs.Questions.{is_fixed, misplaced}
@@ -17,8 +17,8 @@ use Rattle.dt_rewrite.specs.declared.distributes.Distribute.{Distribute}
 use Rattle.dt_rewrite.specs.Distributes.{front_of, distribute_tests, wrong_extent, distribute_cause, distribute_effect, distribute_rule}
 use Rattle.dt_cuts.proofs.Passing.{all_pass, test_holds, none_with, nothing_made}
 use Rattle.dt_cuts.specs.Causes.{name_of}
-use Rattle.dt_cuts.proofs.CutFacts.{all_both}
 use Rattle.dt_cuts.proofs.Stands.{ArePlain, all_plain}
+use Rattle.dt_nest.proofs.Truth.{all_and}
 
 -- The named loops are the outermost, in order, and neither walked nor substituted, and at none but the last is a tensor
 -- communicated.
@@ -98,40 +98,14 @@ none_communicated (m ∷ moved) vs h = (
 
 -- A distribute without a cause keeps the schedule lawful.
 pub distribute_lawful : (c : Distribute) (s : Schedule) → IsLawful s → distribute_cause c s ≡ None → IsLawful (distribute_effect c s)
-distribute_lawful c s l e = record {
-  few = l.few;
-  differ = l.differ;
-  names = record {
-    loops = l.names.loops;
-    tensors = l.names.tensors;
-    extents = l.names.extents;
-    few = l.names.few;
-    few_tensors = l.names.few_tensors;
-  };
-  named = l.named;
-  derived = l.derived;
-  ordered = l.ordered;
-  loops = l.loops;
-  follows = l.follows;
-  guards = l.guards;
-  distributed = distributed_outermost c.vars s.nest k.outermost (all_plain s.nest l.differ c.vars k.unfixed);
-  communicated = record {
-    loops = all_map _ (λ (m : Moved). IsCommunicate (length c.vars) m.at s.nest)
-        (λ m h. communicate_distributed c.vars m.at s.nest k.outermost h.1 (communicate_fewer s.distributed 0 m.at s.nest (omega arith) h.0))
-        s.moved (all_both _ _ s.moved l.communicated.loops (none_communicated s.moved (front_of c.vars) k.uncommunicated));
-    accessed = l.communicated.accessed;
-    once = l.communicated.once;
-  };
-  kernels = l.kernels;
-  works = record {
-    once = l.works.once;
-    leaves = l.works.leaves;
-    stand = l.works.stand;
-    written = l.works.written;
-    small = l.works.small;
-    accesses = l.works.accesses;
-  };
-}
+distribute_lawful c s l e =
+    marked_lawful (length c.vars) s.moved s l (distributed_outermost c.vars s.nest k.outermost (all_plain s.nest l.differ c.vars k.unfixed)) (record {
+      loops = all_map _ (λ (m : Moved). IsCommunicate (length c.vars) m.at s.nest)
+          (λ m h. communicate_distributed c.vars m.at s.nest k.outermost h.1 (communicate_fewer s.distributed 0 m.at s.nest (omega arith) h.0))
+          s.moved (all_and _ _ s.moved l.communicated.loops (none_communicated s.moved (front_of c.vars) k.uncommunicated));
+      accessed = l.communicated.accessed;
+      once = l.communicated.once;
+    })
   where
     k : CanDistribute c s
     k = can_distribute c s e
@@ -171,12 +145,9 @@ distribute_grid c s l e =
 pub distribute_keeps : (c : Distribute) (s : Schedule) → IsLawful s → AllByRecursion (λ v. v < length s.names) c.vars → distribute_cause c s ≡ None → Keeps (distribute_rule c) s
 distribute_keeps c s law known ok = record {
   lawful = λ few. distribute_lawful c s law ok;
-  sum = record {
-    fits = λ stored tensors f. record { count = f.count; shapes = f.shapes; whole = f.whole; levels = f.levels; zeros = f.zeros; accesses = f.accesses; walks = f.walks; positions = f.positions };
-    sums = λ stored tensors at f. refl;
-  };
-  accesses = accesses_stay s (distribute_effect c s) refl refl refl refl;
-  fit = λ stored suits f. record { count = f.count; levels = f.levels; accesses = f.accesses; walks = f.walks; positions = f.positions };
+  sum = marked_sum (length c.vars) s.moved s;
+  accesses = marked_accesses (length c.vars) s.moved s;
+  fit = λ stored suits f. marked_fits (length c.vars) s.moved s stored f;
   grid = λ dims serves g. inr (distribute_grid c s law ok ∙ serves);
 }
 

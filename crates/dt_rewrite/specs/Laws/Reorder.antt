@@ -21,9 +21,10 @@ use Rattle.dt_nest.specs.Questions.{is_in, all_differ, is_chain, in_order}
 use Rattle.dt_rewrite.specs.Reorders.{reorder_tests, reorder_cause, reorder_cut, reorder_effect, reorder_rule}
 use Rattle.dt_cuts.proofs.Orders.{times_in, AreReordered, length_reordered, sum_over_reordered}
 use Rattle.dt_cuts.proofs.Passing.{all_pass, test_holds, loops_known, FreeLoops, loops_free}
-use Rattle.dt_cuts.proofs.CutFacts.{all_both, in_all}
+use Rattle.dt_cuts.proofs.CutFacts.{in_all}
 use Rattle.dt_cuts.proofs.Stands.{loop_below, ArePlain, all_plain, holds_at_chain}
 use Rattle.dt_cuts.proofs.ReorderFacts.{all_in, times_present, times_absent, times_differ, heads_in, heads_differ, length_heads, no_heads, all_heads, order_named, order_has, order_times}
+use Rattle.dt_nest.proofs.Truth.{all_and}
 
 -- The named loops stand in the nest, each is named once, in the nest's order they are one chain, and each is free.
 pub record CanReorder (c : Reorder) (s : Schedule) : Type 0 where
@@ -101,7 +102,7 @@ module _ (c : Reorder) (s : Schedule) (l : IsLawful s) (k : CanReorder c s) wher
 
   -- none of them is distributed or a communicate loop
   free : AreFree (heads_of s ordered) s
-  free = all_heads s _ ordered (in_turn _ (all_both _ _ c.vars k.free.undistributed k.free.unmoved))
+  free = all_heads s _ ordered (in_turn _ (all_and _ _ c.vars k.free.undistributed k.free.unmoved))
 
   -- the loops that come are those that go
   come : AllByRecursion (IsNewHead (reorder_cut c s) s) (heads_of s c.vars)
@@ -129,6 +130,7 @@ module _ (c : Reorder) (s : Schedule) (l : IsLawful s) (k : CanReorder c s) wher
     covered = all_heads s _ ordered (all_map (λ u. is_in c.vars u ≡ true) _ (λ u e. or_left (is_head (heads_of s c.vars) u) false (heads_in s c.vars u ∙ e)) ordered (order_named c.vars s.nest));
     ordered = tt;
     named = tt;
+    coordinates = tt;
     guards = tt;
     guarded = tt;
   }

@@ -26,7 +26,8 @@ use Rattle.dt_cuts.specs.Causes.{name_of, taken_name}
 use Rattle.dt_rewrite.specs.Rotates.{rotate_tests, rotate_cause, rotate_cut, rotate_effect, rotate_rule}
 use Rattle.dt_cuts.proofs.Passing.{all_pass, none_with, loops_known, names_differ, FreeLoops, loops_free, heads_free}
 use Rattle.dt_cuts.proofs.Stands.{loop_below, all_plain, holds_at_both, holds_at_outer, outer_differ, chain_alone, holds_at_chain}
-use Rattle.dt_cuts.proofs.CutFacts.{all_both, is_self, less_differs, more_differs, is_new, one_differs, in_all, index_first, bind_here, bind_outside}
+use Rattle.dt_cuts.proofs.CutFacts.{is_self, less_differs, more_differs, is_new, one_differs, in_all, index_first, bind_here, bind_outside}
+use Rattle.dt_nest.proofs.Truth.{all_and}
 
 -- What holds where there is no cause against a rotate.
 record CanRotate (c : Rotate) (s : Schedule) : Type 0 where
@@ -82,6 +83,7 @@ rotate_is_cut c s l h = record {
     ),
     tt,
   );
+  coordinates = (tt, tt);
   guards = tt;
   guarded = ((λ e. absurd (cc)), tt);
 }
@@ -158,7 +160,7 @@ rotate_keeps_below c s l h stored around name env f same own_old own_heads out_o
     outer : AllByRecursion (λ u. around u ≡ true) c.by
     outer =
         all_map (λ u. (u < k) × ((is_head cut.heads u || around u) ≡ true)) (λ u. around u ≡ true) (λ u p. sym (ap (λ z. (z || false) || around u) (less_differs u k p.0)) ∙ p.1) c.by
-        (all_both (λ u. u < k) (λ u. (is_head cut.heads u || around u) ≡ true) c.by can.by_below named.0.1)
+        (all_and (λ u. u < k) (λ u. (is_head cut.heads u || around u) ≡ true) c.by can.by_below named.0.1)
 
     value : (r : ℕ) → r < n → (bind env k r (name k) + sum_by (λ u. bind env k r (name u)) c.by) % max n 1 ≡ (r + turned) % n
     value r i =

@@ -43,6 +43,7 @@ two_loops_cut s v p f a b law stands free room names = record {
   covered = (or_right (is_head c.heads v) (nat_eq v v || false) same, tt);
   ordered = ((ne_eqb k v (λ e. omega (arith, e, below)), (ne_eqb (k + 1) v (λ e. omega (arith, e, below)), tt)), tt, tt);
   named = ((omega (arith, below, two), (omega (arith, two), (omega (arith, two), tt)), tt), tt);
+  coordinates = (tt, tt);
   guards = (same, tt);
   guarded = ((λ t. same), tt);
 }
