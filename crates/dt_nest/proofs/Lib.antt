@@ -15,6 +15,7 @@ pub mod Pruned
 pub mod OwnSlots
 pub mod Holding
 pub mod Journeys
+pub mod LaneTables
 pub mod LeafFacts
 pub mod RunFacts
 pub mod Congruence
@@ -43,3 +44,4 @@ pub mod PathDepths
 pub mod PathUnions
 pub mod PathFans
 pub mod PointFacts
+pub mod PointTables
