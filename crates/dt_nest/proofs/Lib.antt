@@ -15,6 +15,7 @@ pub mod Pruned
 pub mod OwnSlots
 pub mod Holding
 pub mod Journeys
+pub mod LaneTables
 pub mod LeafFacts
 pub mod RunFacts
 pub mod Congruence
@@ -46,3 +47,4 @@ pub mod PointFacts
 pub mod LawfulFit
 pub mod ZerosFit
 pub mod Marked
+pub mod PointTables

@@ -1,7 +1,9 @@
 -- A point of a visit: the visit itself, or one valid value of its substituted loop, which is then the lane.
-use Rattle.std.specs.Prelude.{◌≡◌, ℕ, true, List, [], Option, Some, None, slice_set}
+use Rattle.std.specs.Prelude.{◌≡◌, ℕ, true, List, [], Option, Some, None, slice_set, unwrap_or}
 use Rattle.dt_nest.specs.declared.derivations.Derived.{Derived}
 use Rattle.dt_nest.specs.declared.loops.Kernel.TheVariants.{Plain}
+use Rattle.dt_nest.specs.declared.points.Point.{Point}
+use Rattle.dt_nest.specs.Tables.{tabled}
 use Rattle.dt_nest.specs.Meaning.{World, Env}
 use Rattle.dt_nest.specs.World.{world_of}
 use Rattle.dt_nest.specs.Visits.{Lanes, LeafVisit, Item, IsReset, IsVisit, value_in}
@@ -53,3 +55,12 @@ valid_in (Some lanes) = lanes.valid
 -- those where a run stands
 abbrev pub valid_of : Run → List ℕ
 valid_of r = valid_in (visit_of r).lanes
+
+-- The list has the value of each variable that has one at a point of the visit where a run stands.
+pub record ArePointValues (r : Run) (lane : Option ℕ) (values : List (Option ℕ)) : Type 0 where
+  pub has : (u : ℕ) → HasValueAt r lane u → unwrap_or (tabled values u) 0 ≡ env_at r lane u
+
+-- A point of the visit where a run stands, with the values of the variables there.
+pub record IsPointOf (r : Run) (p : Point) : Type 0 where
+  pub point : IsPoint r p.lane
+  pub values : ArePointValues r p.lane p.values.now

@@ -1,7 +1,11 @@
 -- What is kept beside a run over visits: its leaf, the loops that turn, and the values of variables.
-use Rattle.std.specs.Prelude.{◌≡◌, ℕ, ◌<◌, Bool, true, false, List, [], Option, Some, length}
+use Rattle.std.specs.Prelude.{◌≡◌, ℕ, ◌<◌, Bool, true, false, List, [], Option, Some, None, length, slice_set}
 use Rattle.std.specs.List.{AllByRecursion}
 use Rattle.dt_model.specs.Positions.{StoredTensor}
+use Rattle.dt_nest.specs.declared.branches.Substituted.{Substituted}
+use Rattle.dt_nest.specs.declared.derivations.Derived.{Derived}
+use Rattle.dt_nest.specs.declared.loops.Pair.{Pair}
+use Rattle.dt_nest.specs.Meaning.{World}
 use Rattle.dt_nest.specs.declared.progress.Progress.{Progress}
 use Rattle.dt_nest.specs.declared.progress.Progress.TheVariants.{On}
 use Rattle.dt_nest.specs.declared.stepping.Outcome.{Outcome}
@@ -23,6 +27,11 @@ use Rattle.dt_nest.specs.Run.{CanGoOn, Moves, Stands, left_of, run_tests}
 pub record IsVisited (tree : Tree) (leaf : ℕ) (v : VisitedLeaf) : Type 0 where
   pub nest : tree_of v.nest.now ≡ leaf_at tree leaf
   pub substituted : v.substituted ≡ substituted_at tree leaf
+
+-- where a loop is substituted, the list has the value of each variable at a leaf and a value of that loop, as in a leaf's table
+abbrev pub HasLaneTable : World → List Derived → List Pair → List Pair → List ℕ → Option Substituted → ℕ → List (Option ℕ) → Type 0
+HasLaneTable w ds outer inner slots None x values = Unit {0}
+HasLaneTable w ds outer inner slots (Some loop) x values = IsLeafTable w ds outer inner (slice_set slots loop.var x) values
 
 -- What is kept beside a run: the wheels, and at each visit of a leaf the values of all variables.
 pub record IsKept (stored : List StoredTensor) (s : Schedule) (path slots : List ℕ) (p : Progress) (w : Wheels) (values : List (Option ℕ)) : Type 0 where

@@ -1,7 +1,9 @@
 //! The tests of a schedule's visits against tensors.
 
-ghost use Rattle.std.specs.Prelude.{◌≡◌, length};
+ghost use Rattle.std.specs.Prelude.{◌≡◌, ℕ, List, length};
 ghost use Rattle.dt_nest.specs.Schedule.{seen};
+ghost use Rattle.dt_nest.specs.Meaning.{renamed};
+ghost use Rattle.dt_nest.specs.Tables.{IsTable};
 ghost use Rattle.dt_nest.specs.World.{world_of};
 ghost use Rattle.dt_nest.specs.Lawful.{AreNamed};
 ghost use Rattle.dt_nest.specs.Naming.{pairs_in};
@@ -27,6 +29,46 @@ pub struct Against<'s, L: Locator> {
 }
 
 impl<L: Locator> Against<'_, L> {
+    /// Whether a loop takes its value, from a table of all values there.
+    pub fn takes_from(
+        &self,
+        walk: &Option<Walk>,
+        var: u32,
+        naming: &Naming,
+        values: &[Option<u32>],
+    ) -> bool
+        requires tensors { length (L.tensors self.now.loc.now) ≡ length self.now.parts.now.tensors }
+        ensures { (slots : List ℕ) → IsTable (world_of (L.tensors self.now.loc.now) (seen self.now.parts.now)) self.now.parts.now.derived (renamed (pairs_in naming.now)) slots values.now → result ≡ (inside_tests (world_of (L.tensors self.now.loc.now) (seen self.now.parts.now)) self.now.parts.now.derived).takes walk.now var (pairs_in naming.now) slots }
+    {
+        match walk {
+            None => true,
+            Some(walk) => {
+                let known = Table {
+                    names: naming,
+                    values,
+                };
+                takes_stored(walk, var, naming, self.parts, self.loc, &known)
+            }
+        }
+    }
+
+    /// Whether the guards of a leaf hold, from a table of all values there.
+    pub fn holds_from(&self, leaf: &Nest, naming: &Naming, values: &[Option<u32>]) -> bool
+        ensures { (slots : List ℕ) → IsTable (world_of (L.tensors self.now.loc.now) (seen self.now.parts.now)) self.now.parts.now.derived (renamed (pairs_in naming.now)) slots values.now → result ≡ (inside_tests (world_of (L.tensors self.now.loc.now) (seen self.now.parts.now)) self.now.parts.now.derived).holds (guards_of (tree_of leaf.now)) (pairs_in naming.now) slots }
+    {
+        match leaf {
+            Nest::Loop { .. } => true,
+            Nest::Pre { .. } => true,
+            Nest::Leaf { guards, .. } => {
+                let known = Table {
+                    names: naming,
+                    values,
+                };
+                hold(guards.as_slice(), self.parts.extents.as_slice(), &known)
+            }
+        }
+    }
+
     /// Whether a loop takes its value. It takes no room, and seeks each value by itself.
     pub fn takes_at(&self, walk: &Option<Walk>, var: u32, naming: &Naming, slots: &Slots) -> bool
         requires named { AreNamed (seen self.now.parts.now) self.now.parts.now.derived }

@@ -19,6 +19,7 @@ mod odometer;
 mod odometer_tests;
 mod parts;
 mod path_laws;
+mod points;
 mod progress;
 mod questions;
 mod schedules;
@@ -44,6 +45,7 @@ pub use path_laws::{
     paths_are_visited, paths_grow, root_sum, sums_follow_visited, sums_over_paths, task_has_loops,
     unvisited_adds_nothing, visits_follow_paths, visits_follow_visited, visits_over_paths,
 };
+pub use points::Point;
 pub use progress::Visit;
 pub use questions::{
     accesses_tensor, all_differ, has_loop, in_order, is_among, is_around, is_chain, is_fixed,

@@ -45,13 +45,7 @@ pub trait Testing {
         ensures takes { result ≡ (tests self.now).takes walk.now var (pairs_in naming.now) slots.now }
         ensures values { length values.new ≡ length values.old };
 
-    fn holds(
-        &self,
-        leaf: &Nest,
-        naming: &Naming,
-        slots: &[u32],
-        values: &mut [Option<u32>],
-    ) -> bool
+    fn holds(&self, leaf: &Nest, naming: &Naming, slots: &[u32], values: &mut [Option<u32>]) -> bool
         requires ready { ready self.now }
         requires slots { length slots.now ≡ room self.now }
         requires values { length values.old ≡ room self.now }

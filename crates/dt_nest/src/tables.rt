@@ -1,14 +1,16 @@
 //! The values of all variables at a place, in one list.
 
-ghost use Rattle.std.specs.Prelude.{◌≡◌, ◌<◌, ◌%◌, ℕ, Some, length, option_map, slice_index};
+ghost use Rattle.std.specs.Prelude.{◌≡◌, ◌<◌, ◌%◌, ℕ, List, Some, length, option_map, slice_index, slice_set};
 ghost use Rattle.dt_nest.specs.Schedule.{seen};
 ghost use Rattle.dt_nest.specs.World.{world_of};
 ghost use Rattle.dt_nest.specs.Lawful.{AreNamed, IsBounded};
 ghost use Rattle.dt_nest.specs.Values.{derived_inside, sum_inside};
 ghost use Rattle.dt_nest.specs.Tables.{IsTable, refilled, tabled};
 
+use crate::against::Against;
 use crate::derivations::{Derive, Derived};
 use crate::knowing::Known;
+use crate::lanes::Lane;
 use crate::naming::{Renaming, Unrenamed};
 use crate::parts::SchedParts;
 use crate::values::{coordinate, quotient, rest_of, split_value};
@@ -119,21 +121,19 @@ fn fill_slots(slots: &[u32], values: &mut [Option<u32>])
     }
 }
 
-/// Gives the derived variables of a table their values, where it has the numbers in the slots. The last derivation is the
+/// Gives the derived variables of a table their values, where it has the numbers in some slots. The last derivation is the
 /// first to be done: what a derivation names is replaced by a later one.
 fn fill_derived<L: Locator, N: Renaming>(
     derived: &[Derived],
     parts: &SchedParts,
     loc: &L,
     names: &N,
-    slots: &[u32],
     values: &mut [Option<u32>],
 )
     requires named { AreNamed (seen parts.now) derived.now }
     requires tensors { length (L.tensors loc.now) ≡ length parts.now.tensors }
     requires room { length values.old ≡ length parts.now.names }
-    requires values { (u : ℕ) → tabled values.old u ≡ Some (slice_index slots.now u) }
-    ensures table { IsTable (world_of (L.tensors loc.now) (seen parts.now)) derived.now (N.names names.now) slots.now values.new }
+    ensures table { (slots : List ℕ) → ((u : ℕ) → tabled values.old u ≡ Some (slice_index slots u)) → IsTable (world_of (L.tensors loc.now) (seen parts.now)) derived.now (N.names names.now) slots values.new }
     ensures length { length values.new ≡ length values.old }
 {
     let mut k = derived.len();
@@ -183,5 +183,27 @@ pub fn tabulate<L: Locator, N: Renaming>(
     ensures values { length values.new ≡ length values.old }
 {
     fill_slots(slots, values);
-    fill_derived(parts.derived.as_slice(), parts, loc, names, slots, values);
+    fill_derived(parts.derived.as_slice(), parts, loc, names, values);
+}
+
+/// Makes the values of all variables, from the slots and one value of a substituted loop.
+pub fn tabulate_lane<L: Locator, N: Renaming>(
+    against: &Against<L>,
+    names: &N,
+    slots: &[u32],
+    lane: Lane,
+    values: &mut [Option<u32>],
+)
+    requires named { AreNamed (seen against.now.parts.now) against.now.parts.now.derived }
+    requires tensors { length (L.tensors against.now.loc.now) ≡ length against.now.parts.now.tensors }
+    requires room { length slots.now ≡ length against.now.parts.now.names }
+    requires lane { lane.var < length slots.now }
+    requires values { length values.old ≡ length against.now.parts.now.names }
+    ensures table { IsTable (world_of (L.tensors against.now.loc.now) (seen against.now.parts.now)) against.now.parts.now.derived (N.names names.now) (slice_set slots.now lane.var lane.value) values.new }
+    ensures values { length values.new ≡ length values.old }
+{
+    let parts = against.parts;
+    fill_slots(slots, values);
+    values[lane.var as usize] = Some(lane.value);
+    fill_derived(parts.derived.as_slice(), parts, against.loc, names, values);
 }

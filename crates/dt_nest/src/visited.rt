@@ -10,14 +10,17 @@ ghost use Rattle.dt_nest.specs.Lawful.{AreNamed, IsNamed};
 ghost use Rattle.dt_nest.specs.Naming.{pairs_in};
 ghost use Rattle.dt_nest.specs.Odometer.{pairs_at};
 ghost use Rattle.dt_nest.specs.Tables.{IsLeafTable, tabled};
-ghost use Rattle.dt_nest.specs.Visited.{IsVisited};
+ghost use Rattle.dt_nest.specs.Values.{inside_tests};
+ghost use Rattle.dt_nest.specs.Branch.{substituted_at, valid_at};
+ghost use Rattle.dt_nest.specs.Visited.{HasLaneTable, IsVisited};
 
 use crate::against::Against;
 use crate::branches::{Substituted, leaf_of, substituted_of};
+use crate::lanes::Lane;
 use crate::loops::{Nest, Pair};
 use crate::naming::Naming;
-use crate::odometer::leaves;
-use crate::tables::{tabled, tabulate};
+use crate::odometer::{has_kernel, leaves};
+use crate::tables::{tabled, tabulate, tabulate_lane};
 use dt_model::Locator;
 
 /// A leaf, and the substituted loop around it.
@@ -105,5 +108,73 @@ pub fn tabulate_leaf<L: Locator>(
             }
         }
         Nest::Leaf { .. } => tabulate(against.parts, against.loc, naming, slots, values),
+    }
+}
+
+/// A leaf, and a value of the substituted loop around it.
+#[derive(Clone, Copy, Debug)]
+pub struct LeafLane {
+    pub leaf: u32,
+    pub value: u32,
+}
+
+/// Makes the values of all variables at a leaf, where the substituted loop around it has a value, each under the name
+/// that it has outside all producers. The answer is whether that value is valid, and no where no loop is substituted.
+pub fn tabulate_leaf_lane<L: Locator>(
+    nest: &Nest,
+    naming: &Naming,
+    against: &Against<L>,
+    lane: LeafLane,
+    slots: &[u32],
+    values: &mut [Option<u32>],
+) -> bool
+    requires few { leaf_count (tree_of nest.now) < 2 ^ 32 }
+    requires nest { IsNamed (seen against.now.parts.now) (tree_of nest.now) }
+    requires named { AreNamed (seen against.now.parts.now) against.now.parts.now.derived }
+    requires tensors { length (L.tensors against.now.loc.now) ≡ length against.now.parts.now.tensors }
+    requires room { length slots.now ≡ length against.now.parts.now.names }
+    requires values { length values.old ≡ length against.now.parts.now.names }
+    ensures valid { result ≡ valid_at (inside_tests (world_of (L.tensors against.now.loc.now) (seen against.now.parts.now)) against.now.parts.now.derived) (tree_of nest.now) (pairs_in naming.now) slots.now lane.leaf lane.value }
+    ensures table { HasLaneTable (world_of (L.tensors against.now.loc.now) (seen against.now.parts.now)) against.now.parts.now.derived (pairs_in naming.now) (pairs_at (tree_of nest.now) lane.leaf) slots.now (substituted_at (tree_of nest.now) lane.leaf) lane.value values.new }
+    ensures values { length values.new ≡ length values.old }
+{
+    match nest {
+        Nest::Loop {
+            var,
+            walk,
+            body,
+            ..
+        } => {
+            if has_kernel(body) {
+                let at = Lane {
+                    var: *var,
+                    value: lane.value,
+                };
+                tabulate_lane(against, naming, slots, at, values);
+                return against.takes_from(walk, *var, naming, values)
+                    && against.holds_from(body, naming, values);
+            }
+            tabulate_leaf_lane(body, naming, against, lane, slots, values)
+        }
+        Nest::Pre {
+            pairs,
+            producer,
+            consumer,
+            ..
+        } => {
+            let count = leaves(producer);
+            if lane.leaf < count {
+                let inner = Naming::Under(pairs.as_slice(), &*naming);
+                let valid = tabulate_leaf_lane(producer, &inner, against, lane, slots, values);
+                rename(pairs.as_slice(), values);
+                return valid;
+            }
+            let lane = LeafLane {
+                leaf: lane.leaf - count,
+                value: lane.value,
+            };
+            tabulate_leaf_lane(consumer, naming, against, lane, slots, values)
+        }
+        Nest::Leaf { .. } => false,
     }
 }

@@ -1,10 +1,11 @@
 //! The visits of a schedule's nest, one after another.
 
-ghost use Rattle.std.specs.Prelude.{◌≡◌, ◌<◌, true, IfOk, length, option_map, replicate, slice_index, unwrap_or};
+ghost use Rattle.std.specs.Prelude.{◌≡◌, ◌<◌, true, IfOk, Some, None, length, option_map, replicate, slice_index, unwrap_or};
+ghost use Rattle.std.specs.Bool.{OnTrue};
 ghost use Rattle.dt_nest.specs.Tree.{tree_of};
 ghost use Rattle.dt_nest.specs.FitsStored.{FitsStored};
 ghost use Rattle.dt_nest.specs.Visits.{IsPath};
-ghost use Rattle.dt_nest.specs.Point.{HasValueAt, IsPoint, env_at};
+ghost use Rattle.dt_nest.specs.Point.{ArePointValues, HasValueAt, IsPoint, IsPointOf, env_at};
 ghost use Rattle.dt_nest.specs.Run.{AreAscending, AreValued, Goes, HasLaneValue, HasValue, HaveLoopValues, HaveTestValues, IsAtLeaf, IsExtent, IsLaneValue, IsLeafOf, IsValue, OnLanes, OnVisit, SameNest, answer_of, is_among, run_over};
 
 use crate::against::Against;
@@ -12,11 +13,12 @@ use crate::branches::{Substituted, is_valid_at, value_of};
 use crate::lanes::{Lane, Slots};
 use crate::loops::Nest;
 use crate::naming::Naming;
+use crate::points::Point;
 use crate::progress::{Progress, Visit};
 use crate::schedules::Sched;
 use crate::stepping::stepped;
 use crate::tables::tabled;
-use crate::visited::VisitedLeaf;
+use crate::visited::{LeafLane, VisitedLeaf, tabulate_leaf_lane};
 use crate::wheels::Wheels;
 use dt_base::NoMemory;
 use dt_model::Locator;
@@ -161,6 +163,63 @@ impl<'s, L: Locator> Visits<'s, L> {
             None => self.eval(var),
             Some(x) => self.eval_lane(x, var),
         }
+    }
+
+    /// Room for the values of all variables at a value of a substituted loop.
+    pub fn lane_room(&self, alloc: Global) -> Result<Vec<Option<u32>>, NoMemory>
+        ensures { IfOk result (λ values. length values.items ≡ length self.now.sched.names) }
+    {
+        no_values(alloc, self.values.len())
+    }
+
+    /// The last visit, with the values of all variables.
+    pub fn point(&self) -> Point<'_>
+        requires { IsAtLeaf self.now }
+        ensures lane { result.lane ≡ None }
+        ensures point { IsPointOf self.now result }
+    {
+        Point {
+            lane: None,
+            values: self.values.as_slice(),
+        }
+    }
+
+    /// Makes the values of all variables at the last visit, where its substituted loop has a number below its extent,
+    /// and tells whether that is a valid value. Each value is made once.
+    pub fn enter_lane(&self, x: u32, values: &mut [Option<u32>]) -> bool
+        requires within { OnLanes self.now (λ lanes. x < lanes.extent) }
+        requires room { length values.old ≡ length self.now.sched.names }
+        ensures valid { OnLanes self.now (λ lanes. result ≡ is_among x lanes.valid) }
+        ensures point { OnTrue result (ArePointValues self.now (Some x) values.new) }
+        ensures room { length values.new ≡ length values.old }
+    {
+        let sched = self.sched;
+        let against = Against {
+            parts: sched.parts(),
+            loc: self.loc,
+        };
+        let lane = LeafLane {
+            leaf: self.progress.leaf(),
+            value: x,
+        };
+        let slots = self.slots.as_slice();
+        tabulate_leaf_lane(
+            &against.parts.nest,
+            &Naming::Root,
+            &against,
+            lane,
+            slots,
+            values,
+        )
+    }
+
+    /// The value of a variable at a point of the last visit.
+    pub fn value_in(&self, point: &Point, var: u32) -> u64
+        requires point { IsPointOf self.now point.now }
+        requires valued { HasValueAt self.now point.now.lane var }
+        ensures { result ≡ env_at self.now point.now.lane var }
+    {
+        number_of(tabled(point.values, var))
     }
 
     /// The leaf of the last visit.

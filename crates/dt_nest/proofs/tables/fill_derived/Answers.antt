@@ -17,8 +17,9 @@ loop-k-init g c =
     record {
       same = refl;
       within = omega arith;
-      done = subst (λ (l : List Derived). IsTable (world_of (g.L.Locator.tensors c.args.loc.now) (seen c.args.parts.now)) l (g.N.Renaming.names c.args.names.now) c.args.slots.now c.args.values.now) (sym none)
-          (table_none (world_of (g.L.Locator.tensors c.args.loc.now) (seen c.args.parts.now)) (g.N.Renaming.names c.args.names.now) c.args.slots.now c.args.values.now c.requires.values);
+      done = λ slots own.
+          subst (λ (l : List Derived). IsTable (world_of (g.L.Locator.tensors c.args.loc.now) (seen c.args.parts.now)) l (g.N.Renaming.names c.args.names.now) slots c.args.values.now) (sym none)
+          (table_none (world_of (g.L.Locator.tensors c.args.loc.now) (seen c.args.parts.now)) (g.N.Renaming.names c.args.names.now) slots c.args.values.now own);
     }
 
 pub loop-k-preserved : goal.loop-k-preserved
@@ -35,6 +36,7 @@ loop-k-preserved g c =
     record {
       same = length-set c.loop-k.values c.index-derived-k.result.var c.derived_from-value.result ∙ c.loop-k.invariant.same;
       within = omega (arith, l);
-      done = table_more (world_of (g.L.Locator.tensors c.args.loc.now) (seen c.args.parts.now)) (g.N.Renaming.names c.args.names.now) c.args.slots.now c.loop-k.values c.index-derived-k.result (drop c.loop-k.k c.args.derived.now) (drop (c.loop-k.k - 1) c.args.derived.now) c.derived_from-value.result
-          within c.loop-k.invariant.done rest c.derived_from-value.ensures;
+      done = λ slots own.
+          table_more (world_of (g.L.Locator.tensors c.args.loc.now) (seen c.args.parts.now)) (g.N.Renaming.names c.args.names.now) slots c.loop-k.values c.index-derived-k.result (drop c.loop-k.k c.args.derived.now) (drop (c.loop-k.k - 1) c.args.derived.now) c.derived_from-value.result
+          within (c.loop-k.invariant.done slots own) rest c.derived_from-value.ensures;
     }
