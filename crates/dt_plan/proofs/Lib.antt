@@ -14,3 +14,5 @@ pub mod WorkedPlans
 pub mod FourNodes
 pub mod SpecialPlans
 pub mod OperationUnits
+pub mod Keeping
+pub mod BlockSteps

@@ -6,3 +6,6 @@ pub mod ListingLaws
 pub mod Footprints
 pub mod Bounds
 pub mod Limits
+pub mod PathOps
+pub mod Keeps
+pub mod Plans

@@ -6,18 +6,28 @@
 //! along the statements' nests, and they ascend by what the keys are made of.
 #![tactic(auto)]
 
+mod brackets;
 mod kind;
 mod laws;
+mod needs;
 mod ops;
+mod outlined;
 mod parts;
+mod path_ops;
 mod plan_end;
+mod plans;
 mod touches;
 
+pub use brackets::push_brackets;
 pub use kind::Kind;
 pub use laws::{
     list_ascends, list_has_named, list_is_brackets, list_is_ordered, operations_have_units,
 };
+pub use needs::{Need, Needs};
 pub use ops::{Op, Ops};
+pub use outlined::{Around, Outlined, Paths};
 pub use parts::{Part, Parts};
+pub use path_ops::{OnPath, push_closed, push_opened};
 pub use plan_end::PlanEnd;
+pub use plans::Plan;
 pub use touches::{Buffer, Mode, Touch, Touches};

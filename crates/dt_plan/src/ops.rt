@@ -64,4 +64,14 @@ impl Ops {
         self.items.push(op)?;
         Ok(())
     }
+
+    /// Puts other operations behind those that are there.
+    pub fn append(&mut self, more: Ops) -> Result<(), NoMemory>
+        ensures { OnOk result (self.new ≡ self.old ++ more) }
+    {
+        for op in more.items {
+            self.items.push(op)?;
+        }
+        Ok(())
+    }
 }

@@ -47,3 +47,13 @@ impl Model for Touches {
 
     ghost view = { λ l. l.items.items };
 }
+
+impl Touches {
+    ghost use Rattle.std.specs.Prelude.{◌≡◌};
+
+    pub fn as_slice(&self) -> &[Touch]
+        ensures { result.now ≡ self.now }
+    {
+        self.items.as_slice()
+    }
+}
