@@ -3,3 +3,15 @@ pub mod EntryLemmas
 pub mod PackLemmas
 pub mod Prefixes
 pub mod Tables
+pub mod BehindFronts
+pub mod Depths
+pub mod IndexNumbers
+pub mod StoredFronts
+pub mod FrontSearch
+pub mod NextChildren
+pub mod PackedFacts
+pub mod PackedStored
+pub mod StoredTables
+pub mod GivenFronts
+pub mod StoredEntries
+pub mod PackFacts

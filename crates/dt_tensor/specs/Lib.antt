@@ -1,2 +1,3 @@
+pub mod LevelKinds
 pub mod Packing
 pub mod Packed

@@ -1,11 +1,11 @@
 -- The tensor that entries give, or the first thing that is wrong with them.
-use Rattle.std.specs.Prelude.{◌≡◌, ℕ, ◌+◌, List, length, take, map, find, Bool, is_none, is_some, nat_lt, Option, Some, None, option_map, unwrap_or, slice_get, Result, Ok, Err, if◌then◌else◌}
-use Rattle.std.specs.List.{list_any}
+use Rattle.std.specs.Prelude.{◌≡◌, ℕ, ◌+◌, ◌/◌, ◌<◌, ◌≤◌, List, length, take, map, find, Bool, is_none, is_some, nat_lt, Option, Some, None, option_map, unwrap_or, slice_get, Result, Ok, Err, if◌then◌else◌}
+use Rattle.std.specs.List.{filter_map, list_any}
 use Rattle.std.specs.Option.{option_and_then}
 use Rattle.std.specs.Str.{bytes_eq}
 use Rattle.dt_base.specs.Ranges.{below, assignments}
 use Rattle.dt_base.specs.Rows.{row_major}
-use Rattle.dt_model.specs.Positions.{stored_coords}
+use Rattle.dt_model.specs.Positions.{StoredTensor, IsStored, stored_coords}
 use Rattle.dt_model.specs.WholeTensor.{WholeTensor}
 use Rattle.dt_tensor.specs.Packed.{Packed}
 use Rattle.dt_tensor.specs.declared.entry.Given.{Given}
@@ -19,6 +19,19 @@ given_at entries c = unwrap_or (option_map (λ e. e.value) (find (λ e. bytes_eq
 -- the whole tensor with the number that the entries give at each index
 abbrev pub given_whole : List ℕ → List Given → WholeTensor
 given_whole ns entries = record { extents = ns; values = map (given_at entries) (assignments ns) }
+
+-- the row-major numbers of the fronts of the entries that lie in the shape, where so many indices are behind each front
+abbrev pub fronts_given : List ℕ → ℕ → List Given → List ℕ
+fronts_given ns size entries = filter_map (λ e. option_map (λ n. n / size) (row_major ns e.at)) entries
+
+-- what these levels store where these entries are given
+abbrev pub levels_asked : List ℕ → List Bool → List Given → StoredTensor
+levels_asked ns compressed entries = record { extents = ns; compressed = compressed; coords = stored_coords ns compressed (map (λ e. e.at) entries) }
+
+-- the levels that store it, or none where there would be more than 2 ^ 20 positions
+abbrev pub AreLevels : Option StoredTensor → StoredTensor → Type 0
+AreLevels (Some levels) asked = (levels ≡ asked) × IsStored asked × (length asked.coords ≤ 1048576)
+AreLevels None asked = 1048576 < length asked.coords
 
 -- what is wrong with an entry, from 1: it lies out of the shape, or one before it has its coordinates
 abbrev pub offence : List ℕ → List Given → ℕ → Option PackEnd

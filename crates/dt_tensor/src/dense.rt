@@ -34,13 +34,22 @@ impl Model for DenseLevels {
 
 impl DenseLevels {
     ghost use Rattle.dt_model.specs.Positions.{IsStored, place_in, coords_at, is_stored_prefix, next_child_of, cost_of};
-    ghost use Rattle.dt_tensor.specs.Packed.{dense_levels};
+    ghost use Rattle.dt_tensor.specs.Packed.{dense_levels, index_at};
 
     pub fn new(shape: Shape) -> DenseLevels
         requires { IsShape shape }
         ensures { result ≡ dense_levels (dims shape) }
     {
         DenseLevels { shape }
+    }
+
+    /// The position of the index with this row-major number: the number.
+    pub(crate) fn position_of(&self, number: u32) -> Option<u32>
+        requires { number < product self.now.extents }
+        ensures { result ≡ place_in self.now (index_at self.now.extents number) }
+    {
+        let _levels = &self.shape;
+        Some(number)
     }
 
     /// The position of the coordinates, and none where they are not stored.
@@ -77,6 +86,7 @@ impl DenseLevels {
         ensures lawful { IsShape result }
         ensures dims { dims result ≡ self.now.extents }
         ensures stored { IsStored self.now }
+        ensures dense { self.now ≡ dense_levels self.now.extents }
     {
         self.shape
     }
@@ -103,7 +113,7 @@ impl DenseLevels {
 }
 
 /// Whether there are at most as many coordinates as extents, each below its own.
-fn are_below(c: &[u32], extents: &[u32]) -> bool
+pub(crate) fn are_below(c: &[u32], extents: &[u32]) -> bool
     ensures { result ≡ is_front extents.now c.now }
 {
     c.len() <= extents.len() && c.iter().zip(extents).all(|(x, n)| *x < *n)

@@ -2,7 +2,7 @@
 
 ghost use Rattle.std.specs.Prelude.{◌≡◌, ◌<◌, ◌∷◌, ◌++◌, [], Some, length, slice_get, OnOk};
 
-use crate::dense::DenseLevels;
+use crate::tensor_levels::TensorLevels;
 use dt_base::{Coords, NoMemory};
 use dt_model::{Locator, Shape};
 use std::alloc::Global;
@@ -11,7 +11,7 @@ use std::marker::Model;
 /// Where the words of tensors lie, by number, apart from the numbers that stand there.
 #[derive(Debug, Drop)]
 pub struct Levels {
-    items: Vec<DenseLevels>,
+    items: Vec<TensorLevels>,
 }
 
 impl Model for Levels {
@@ -33,14 +33,14 @@ impl Levels {
     }
 
     /// Puts those of one tensor at the end.
-    pub fn push(&mut self, levels: DenseLevels) -> Result<(), NoMemory>
+    pub fn push(&mut self, levels: TensorLevels) -> Result<(), NoMemory>
         ensures { OnOk result (self.new ≡ self.old ++ levels ∷ []) }
     {
         self.items.push(levels)?;
         Ok(())
     }
 
-    fn get(&self, tensor: u32) -> &DenseLevels
+    fn get(&self, tensor: u32) -> &TensorLevels
         requires { tensor < length self.now }
         ensures { slice_get self.now tensor ≡ Some result.now }
     {

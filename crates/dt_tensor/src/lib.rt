@@ -4,8 +4,10 @@
 mod dense;
 mod entry;
 mod levels;
+mod packed_levels;
 mod packing;
 mod tensor;
+mod tensor_levels;
 mod tensors;
 #[cfg(test)]
 mod tests;
@@ -13,6 +15,8 @@ mod tests;
 pub use dense::DenseLevels;
 pub use entry::{Entries, Given};
 pub use levels::Levels;
+pub use packed_levels::PackedLevels;
 pub use packing::{PackEnd, pack};
 pub use tensor::Tensor;
+pub use tensor_levels::{LevelKind, TensorLevels};
 pub use tensors::Tensors;

@@ -4,34 +4,34 @@ ghost use Rattle.std.specs.Prelude.{◌≡◌, ◌≤◌, ◌<◌, length};
 ghost use Rattle.dt_base.specs.Rows.{product};
 ghost use Rattle.dt_model.specs.Shape.{dims, IsShape};
 
-use crate::dense::{DenseLevels, coordinates};
+use crate::dense::DenseLevels;
+use crate::tensor_levels::TensorLevels;
 use dt_base::NoMemory;
 use dt_model::{Shape, Whole};
 use std::alloc::Global;
 use std::marker::Model;
 
-/// A tensor: its shape, and the numbers at its stored coordinates in order. Each level is dense.
+/// A tensor: its levels, and the numbers at its stored coordinates in order.
 #[derive(Debug, Drop)]
 pub struct Tensor {
-    shape: Shape,
+    levels: TensorLevels,
     values: Vec<u64>,
 }
 
 impl Model for Tensor {
-    ghost use Rattle.dt_model.specs.Shape.{dims, IsShape};
-    ghost use Rattle.dt_tensor.specs.Packed.{Packed, IsPacked, dense_tensor};
+    ghost use Rattle.dt_tensor.specs.Packed.{Packed, IsPacked, packed_with};
 
     ghost Value = { Packed };
 
-    ghost view = { λ t. dense_tensor (dims t.shape) t.values.items };
+    ghost view = { λ t. packed_with t.levels t.values.items };
 
-    ghost invariant = { λ t. IsShape t.shape × IsPacked (dense_tensor (dims t.shape) t.values.items) };
+    ghost invariant = { λ t. IsPacked (packed_with t.levels t.values.items) };
 }
 
 impl Tensor {
     ghost use Rattle.std.specs.Prelude.{IfOk, slice_index};
     ghost use Rattle.dt_model.specs.Positions.{coords_at};
-    ghost use Rattle.dt_tensor.specs.Packed.{IsPacked, stored_of, whole_of, dense_tensor};
+    ghost use Rattle.dt_tensor.specs.Packed.{IsPacked, stored_of, whole_of, dense_tensor, packed_with, number_in, index_at};
 
     /// The tensor with these numbers, in row-major order.
     pub fn dense(shape: Shape, values: Vec<u64>) -> Tensor
@@ -40,7 +40,18 @@ impl Tensor {
         requires full { length values.items ≡ product (dims shape) }
         ensures { result ≡ dense_tensor (dims shape) values.items }
     {
-        Tensor { shape, values }
+        Tensor {
+            levels: TensorLevels::dense(DenseLevels::new(shape)),
+            values,
+        }
+    }
+
+    /// The tensor with these levels and a number for each of their positions.
+    pub(crate) fn with_levels(levels: TensorLevels, values: Vec<u64>) -> Tensor
+        requires { IsPacked (packed_with levels values.items) }
+        ensures { result ≡ packed_with levels values.items }
+    {
+        Tensor { levels, values }
     }
 
     /// How many positions there are.
@@ -72,7 +83,7 @@ impl Tensor {
         ensures dims { dims result ≡ self.now.extents }
         ensures packed { IsPacked self.now }
     {
-        self.shape
+        self.levels.shape()
     }
 
     /// The coordinate of a position at one level.
@@ -81,30 +92,52 @@ impl Tensor {
         requires level { level < length self.now.extents }
         ensures { result ≡ slice_index (coords_at (stored_of self.now) pos) level }
     {
-        coordinates(&self.shape, pos)[level as usize]
+        let coords = self.levels.coords(*self.values.allocator(), pos);
+        coords.as_slice()[level as usize]
     }
 
-    /// The number at each index: that of its position, and 0 where it has none.
+    /// The number at the index with this row-major number: that of its position, and 0 where it has none.
+    fn number_at(&self, number: u32) -> u64
+        requires { number < product self.now.extents }
+        ensures { result ≡ number_in self.now (index_at self.now.extents number) }
+    {
+        match self.levels.position_of(number) {
+            None => 0,
+            Some(pos) => self.values.as_slice()[pos as usize],
+        }
+    }
+
+    /// The number at each index: that of its position, and 0 where it has none. It takes the memory of all indices.
     pub fn to_whole(&self, alloc: Global) -> Result<Whole, NoMemory>
         ensures { IfOk result (λ w. w ≡ whole_of self.now) }
     {
-        let values = Vec::from_slice(alloc, self.values.as_slice())?;
-        Ok(Whole::from_values(self.shape, values))
+        let shape = self.levels.shape();
+        let mut values = Vec::new(alloc);
+        for number in 0..shape.count() {
+            values.push(self.number_at(number))?;
+        }
+        Ok(Whole::from_values(shape, values))
     }
 
-    /// Where the words lie, and the number at each index. The numbers are moved.
-    pub(crate) fn into_whole(self) -> (DenseLevels, Whole)
-        ensures levels { result.0 ≡ stored_of self }
-        ensures whole { result.1 ≡ whole_of self }
+    /// Where the words lie, and the number at each index. The numbers are moved where each index is stored.
+    pub(crate) fn into_whole(self, alloc: Global) -> Result<(TensorLevels, Whole), NoMemory>
+        ensures levels { IfOk result (λ r. r.0 ≡ stored_of self) }
+        ensures whole { IfOk result (λ r. r.1 ≡ whole_of self) }
     {
-        let Tensor { shape, values } = self;
-        (DenseLevels::new(shape), Whole::from_values(shape, values))
+        let shape = self.levels.shape();
+        if self.levels.is_dense() {
+            let Tensor { levels, values } = self;
+            return Ok((levels, Whole::from_values(shape, values)));
+        }
+        let whole = self.to_whole(alloc)?;
+        let Tensor { levels, values: _ } = self;
+        Ok((levels, whole))
     }
 
     /// Where the words lie.
-    pub(crate) fn levels(&self) -> DenseLevels
-        ensures { result ≡ stored_of self.now }
+    pub(crate) fn levels(&self) -> &TensorLevels
+        ensures { result.now ≡ stored_of self.now }
     {
-        DenseLevels::new(self.shape)
+        &self.levels
     }
 }

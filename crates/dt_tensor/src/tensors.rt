@@ -63,7 +63,7 @@ impl Tensors {
         let mut all = Levels::new(alloc);
         let mut wholes = Vec::new(alloc);
         for tensor in items {
-            let (levels, whole) = tensor.into_whole();
+            let (levels, whole) = tensor.into_whole(alloc)?;
             all.push(levels)?;
             wholes.push(whole)?;
         }
