@@ -115,11 +115,7 @@ fn push_node<O: Outlined>(
 }
 
 /// Puts the operations of a statement behind those that are there. Past the limit no more are put there.
-pub fn push_brackets<O: Outlined>(
-    alloc: Global,
-    nest: &O,
-    ops: &mut Ops,
-) -> Result<(), NoMemory>
+pub fn push_brackets<O: Outlined>(alloc: Global, nest: &O, ops: &mut Ops) -> Result<(), NoMemory>
     ensures { OnOk result (Keeps ops.old (brackets (O.outline nest.now)) ops.new) }
 {
     ops.append(nest.zeros(alloc)?)?;

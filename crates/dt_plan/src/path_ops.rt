@@ -183,7 +183,12 @@ fn push_folds(alloc: Global, on: &OnPath, need: &Need, ops: &mut Ops) -> Result<
     }
 }
 
-fn push_all_copies(alloc: Global, on: &OnPath, needs: &[Need], ops: &mut Ops) -> Result<(), NoMemory>
+fn push_all_copies(
+    alloc: Global,
+    on: &OnPath,
+    needs: &[Need],
+    ops: &mut Ops,
+) -> Result<(), NoMemory>
     ensures { OnOk result (ops.new ≡ ops.old ++ flat_map (copies_of on.now) needs.now) }
 {
     for need in needs {
@@ -202,7 +207,12 @@ fn push_all_folds(alloc: Global, on: &OnPath, needs: &[Need], ops: &mut Ops) -> 
 }
 
 /// What comes before everything deeper: the scratch is opened, and then the pieces are copied.
-pub fn push_opened(alloc: Global, on: &OnPath, needs: &[Need], ops: &mut Ops) -> Result<(), NoMemory>
+pub fn push_opened(
+    alloc: Global,
+    on: &OnPath,
+    needs: &[Need],
+    ops: &mut Ops,
+) -> Result<(), NoMemory>
     ensures { OnOk result (ops.new ≡ ops.old ++ opened_of on.now needs.now) }
 {
     push_allocs(alloc, on, needs, ops)?;
@@ -210,7 +220,12 @@ pub fn push_opened(alloc: Global, on: &OnPath, needs: &[Need], ops: &mut Ops) ->
 }
 
 /// What comes after it: the pieces are folded, and then the scratch is closed.
-pub fn push_closed(alloc: Global, on: &OnPath, needs: &[Need], ops: &mut Ops) -> Result<(), NoMemory>
+pub fn push_closed(
+    alloc: Global,
+    on: &OnPath,
+    needs: &[Need],
+    ops: &mut Ops,
+) -> Result<(), NoMemory>
     ensures { OnOk result (ops.new ≡ ops.old ++ closed_of on.now needs.now) }
 {
     push_all_folds(alloc, on, needs, ops)?;

@@ -11,7 +11,7 @@ pub returns-then-rest-eq0 : goal.returns-then-rest-eq0
 returns-then-rest-eq0 g t c =
     on_ok_weaker c.append-then-rest-eq0.result
     (λ e. task_kept (g.O.Outlined.outline c.args.nest.now) c.args.path.now c.args.rest c.args.ops.now c.in_ok-around.around.opened c.in_ok-around.around.closed c.in_ok-around.ensures.opened c.in_ok-around.ensures.closed
-      c.in_ok-task.field-0 c.append.new.self c.push.new.self c.append-then-rest-eq0.new.self c.if-rest-eq0.true c.in_ok-task.ensures c.in_ok-append.ensures c.in_ok-push.ensures.ok e)
+    c.in_ok-task.field-0 c.append.new.self c.push.new.self c.append-then-rest-eq0.new.self c.if-rest-eq0.true c.in_ok-task.ensures c.in_ok-append.ensures c.in_ok-push.ensures.ok e)
     c.append-then-rest-eq0.ensures
 
 pub loop-value-preserved : goal.loop-value-preserved
@@ -25,6 +25,6 @@ pub returns : goal.returns
 returns g t c =
     on_ok_weaker c.append-2.result
     (λ e. inside_kept (g.O.Outlined.outline c.args.nest.now) c.args.path.now c.args.rest c.args.ops.now c.in_ok-around.around.opened c.in_ok-around.around.closed c.in_ok-around.ensures.opened c.in_ok-around.ensures.closed
-      c.as_slice-value-items.result.now c.loop-value.value-index c.loop-value.ops c.append-2.new.self c.if-rest-eq0.false (c.as_slice-value-items.ensures.value ∙ c.in_ok-values.ensures.values)
-      (omega (arith, c.loop-value-test.false, c.loop-value.auto.value-index-end)) c.loop-value.invariant e)
+    c.as_slice-value-items.result.now c.loop-value.value-index c.loop-value.ops c.append-2.new.self c.if-rest-eq0.false (c.as_slice-value-items.ensures.value ∙ c.in_ok-values.ensures.values)
+    (omega (arith, c.loop-value-test.false, c.loop-value.auto.value-index-end)) c.loop-value.invariant e)
     c.append-2.ensures
