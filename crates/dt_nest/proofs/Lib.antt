@@ -43,3 +43,4 @@ pub mod PathDepths
 pub mod PathUnions
 pub mod PathFans
 pub mod PointFacts
+pub mod Numbering
