@@ -13,6 +13,7 @@ pub mod Extending
 pub mod Extents
 pub mod Fitting
 pub mod GuardLaw
+pub mod InPlace
 pub mod Lift
 pub mod Orders
 pub mod Passing

@@ -1,5 +1,5 @@
 -- A place in a tree: a loop, by its name, and what stands there.
-use Rattle.std.specs.Prelude.{ℕ, zero, suc, List, [], ◌∷◌, ◌++◌, Option, None, if◌then◌else◌, nat_eq}
+use Rattle.std.specs.Prelude.{ℕ, zero, suc, List, [], ◌∷◌, ◌++◌, ◌-◌, length, take, Option, None, if◌then◌else◌, nat_eq}
 use Rattle.dt_nest.specs.declared.loops.Walk.{Walk}
 use Rattle.dt_cuts.specs.declared.cuts.Head.{Head}
 use Rattle.dt_nest.specs.Tree.{Tree, Loop, Pre, Leaf}
@@ -27,3 +27,16 @@ abbrev pub guarded : List ℕ → Tree → Tree
 guarded vs (Loop v n walk body) = Loop v n walk (guarded vs body)
 guarded vs (Pre work pairs producer consumer) = Pre work pairs (guarded vs producer) (guarded vs consumer)
 guarded vs (Leaf lhs terms guards kernel) = Leaf lhs terms (guards ++ vs) kernel
+
+-- each leaf without its last k guards
+abbrev pub bared : ℕ → Tree → Tree
+bared k (Loop v n walk body) = Loop v n walk (bared k body)
+bared k (Pre work pairs producer consumer) = Pre work pairs (bared k producer) (bared k consumer)
+bared k (Leaf lhs terms guards kernel) = Leaf lhs terms (take (length guards - k) guards) kernel
+
+-- another tree inside the first k loops
+abbrev pub filled : ℕ → Tree → Tree → Tree
+filled zero inner tree = inner
+filled (suc k) inner (Loop v n walk body) = Loop v n walk (filled k inner body)
+filled (suc k) inner (Pre work pairs producer consumer) = inner
+filled (suc k) inner (Leaf lhs terms guards kernel) = inner

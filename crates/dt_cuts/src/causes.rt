@@ -9,7 +9,7 @@ ghost use Rattle.dt_cuts.specs.Causes.{bad_number, communicated_loop, distribute
 
 use dt_base::{Name, NoMemory};
 use dt_model::Cause;
-use dt_nest::{Moved, SchedParts, has_loop, is_among, is_fixed, loop_count};
+use dt_nest::{Moved, NameTable, SchedParts, has_loop, is_among, is_fixed, loop_count};
 
 /// A test that has to hold.
 pub fn unless(test: bool, cause: Cause) -> Option<Cause>
@@ -65,11 +65,11 @@ fn is_name(names: &[Name], name: &Name) -> bool
 }
 
 /// The first new name that stands among the names, or earlier among the new ones.
-pub fn taken_name(names: &[Name], new: &[Name]) -> Option<Cause>
+pub fn taken_name(names: &NameTable, new: &[Name]) -> Option<Cause>
     ensures { result ≡ taken_name names.now new.now }
 {
     for (at, name) in new.iter().enumerate() {
-        if is_name(names, name) || is_name(&new[..at], name) {
+        if names.has(name) || is_name(&new[..at], name) {
             return Some(Cause::NameTaken(name.copied()));
         }
     }

@@ -1,13 +1,12 @@
 //! Cuts: consecutive loops of a nest go, and others come in their place.
 
-ghost use Rattle.std.specs.Prelude.{◌≡◌, ◌<◌, ◌+◌, ◌^◌, ◌++◌, IfOk, IfErr, length};
-ghost use Rattle.dt_nest.specs.Tree.{tree_of};
+ghost use Rattle.std.specs.Prelude.{◌≡◌, ◌<◌, ◌+◌, ◌^◌, ◌++◌, IfOk, IfErr, OnOk, OnErr, length, take};
 ghost use Rattle.dt_nest.specs.Schedule.{seen};
-ghost use Rattle.dt_cuts.specs.Place.{at_loop, guarded, loops_around, without_loops};
-ghost use Rattle.dt_cuts.specs.Cutting.{cut_by, cut_tree};
+ghost use Rattle.dt_cuts.specs.Cutting.{cut_by};
 
+use crate::in_place::cut_nest;
 use dt_base::{Extents, Names, NoMemory, Vars};
-use dt_nest::{Derivations, Nest, SchedParts, access_copied, terms_copied, walk_copied};
+use dt_nest::{Derivations, SchedParts};
 use std::alloc::Global;
 use std::marker::Model;
 
@@ -68,213 +67,68 @@ pub struct Cut {
 }
 
 impl Cut {
-    /// The parts after the cut, with what is new behind what is there. Where memory runs out, the parts come back as
-    /// they were.
+    /// The parts after the cut, with what is new behind what is there. No loop or leaf is copied. Where memory runs out,
+    /// the parts come back as they were.
     pub fn applied(self, alloc: Global, parts: SchedParts) -> Result<SchedParts, SchedParts>
         requires { length (seen parts).names + length self.names < 2 ^ 32 }
         ensures ok { IfOk result (λ p. seen p ≡ cut_by self (seen parts)) }
         ensures few { IfOk result (λ p. length (seen p).names < 2 ^ 32) }
         ensures err { IfErr result (λ p. seen p ≡ seen parts) }
     {
-        match cut_nest(alloc, &parts.nest, &self) {
+        let mut cut = self;
+        let mut parts = parts;
+        match cut_parts(alloc, &mut parts, &mut cut) {
+            Ok(()) => Ok(parts),
             Err(_) => Err(parts),
-            Ok(nest) => match grown(self, parts) {
-                Err(parts) => Err(parts),
-                Ok(parts) => {
-                    let mut parts = parts;
-                    parts.nest = nest;
-                    Ok(parts)
-                }
-            },
         }
     }
 }
 
-/// The parts with the derivations, names and extents of the cut behind theirs, or as they were.
-fn grown(cut: Cut, parts: SchedParts) -> Result<SchedParts, SchedParts>
-    ensures ok { IfOk result (λ p. seen p ≡ record (seen parts) { derived = (seen parts).derived ++ cut.derived; names = (seen parts).names ++ cut.names; extents = (seen parts).extents ++ cut.extents }) }
-    ensures err { IfErr result (λ p. seen p ≡ seen parts) }
+/// Does the cut to the parts, or leaves them as they were.
+#[tactic(auto, using(crate::proofs::InPlace::take_front))]
+fn cut_parts(alloc: Global, parts: &mut SchedParts, cut: &mut Cut) -> Result<(), NoMemory>
+    ensures ok { OnOk result (seen parts.new ≡ cut_by cut.entry.now (seen parts.old)) }
+    ensures err { OnErr result (seen parts.new ≡ seen parts.old) }
 {
-    let mut cut = cut;
-    let mut parts = parts;
     let derived = parts.derived.items.len();
-    let names = parts.names.items.len();
-    match parts.derived.items.append(&mut cut.derived.items) {
-        Ok(()) => {}
-        Err(_) => return Err(parts),
-    }
-    match parts.names.items.append(&mut cut.names.items) {
-        Ok(()) => {}
-        Err(_) => {
-            parts.derived.items.truncate(derived);
-            return Err(parts);
-        }
-    }
-    match parts.extents.items.append(&mut cut.extents.items) {
-        Ok(()) => Ok(parts),
-        Err(_) => {
-            parts.names.items.truncate(names);
-            parts.derived.items.truncate(derived);
-            Err(parts)
+    let names = parts.names.as_slice().len();
+    let extents = parts.extents.items.len();
+    grow(parts, cut)?;
+    match cut_nest(alloc, &mut parts.nest, cut) {
+        Ok(()) => Ok(()),
+        Err(end) => {
+            shrink(parts, derived, names, extents);
+            Err(end)
         }
     }
 }
 
-/// The nest with the loops of the cut in the place of those that go.
-fn cut_nest(alloc: Global, nest: &Nest, cut: &Cut) -> Result<Nest, NoMemory>
-    ensures { IfOk result (λ n. tree_of n ≡ cut_tree cut.now.old cut.now.heads cut.now.guards (tree_of nest.now)) }
+/// Keeps so many derivations, names and extents, the first ones.
+fn shrink(parts: &mut SchedParts, derived: usize, names: usize, extents: usize)
+    ensures { seen parts.new ≡ record (seen parts.old) { derived = take derived (seen parts.old).derived; names = take names (seen parts.old).names; extents = take extents (seen parts.old).extents } }
 {
-    match cut.old.as_slice().split_first() {
-        None => nest.copied(alloc),
-        Some((first, rest)) => cut_at(alloc, nest, first.var, rest.len(), cut),
-    }
+    parts.derived.items.truncate(derived);
+    parts.names.truncate(names);
+    parts.extents.items.truncate(extents);
 }
 
-/// The nest with something else at loop `v`: the loops that come, around what is inside `more` loops of the body.
-fn cut_at(alloc: Global, nest: &Nest, v: u32, more: usize, cut: &Cut) -> Result<Nest, NoMemory>
-    ensures { IfOk result (λ n. tree_of n ≡ at_loop v (λ _ _ body. loops_around cut.now.heads (guarded cut.now.guards (without_loops more body))) (tree_of nest.now)) }
+/// Puts the derivations, names and extents of the cut behind those of the parts, or leaves them as they were.
+fn grow(parts: &mut SchedParts, cut: &mut Cut) -> Result<(), NoMemory>
+    ensures ok { OnOk result (seen parts.new ≡ record (seen parts.old) { derived = (seen parts.old).derived ++ cut.entry.now.derived; names = (seen parts.old).names ++ cut.entry.now.names; extents = (seen parts.old).extents ++ cut.entry.now.extents }) }
+    ensures loops { (cut.exit.now.old ≡ cut.entry.now.old) × (cut.exit.now.heads ≡ cut.entry.now.heads) × (cut.exit.now.guards ≡ cut.entry.now.guards) }
+    ensures err { OnErr result (seen parts.new ≡ seen parts.old) }
 {
-    match nest {
-        Nest::Loop {
-            var,
-            extent,
-            walk,
-            body,
-        } => {
-            if *var == v {
-                let inner = inside(body, more);
-                let inner = with_guards(alloc, inner, cut.guards.as_slice())?;
-                around(alloc, cut.heads.as_slice(), inner)
-            } else {
-                let walk = walk_copied(alloc, walk)?;
-                let inner = cut_at(alloc, body, v, more, cut)?;
-                let body = Box::new(alloc, inner)?;
-                Ok(Nest::Loop {
-                    var: *var,
-                    extent: *extent,
-                    walk,
-                    body,
-                })
-            }
-        }
-        Nest::Pre {
-            work,
-            pairs,
-            producer,
-            consumer,
-        } => {
-            let pairs = pairs.copied(alloc)?;
-            let first = cut_at(alloc, producer, v, more, cut)?;
-            let producer = Box::new(alloc, first)?;
-            let second = cut_at(alloc, consumer, v, more, cut)?;
-            let consumer = Box::new(alloc, second)?;
-            Ok(Nest::Pre {
-                work: *work,
-                pairs,
-                producer,
-                consumer,
-            })
-        }
-        Nest::Leaf { .. } => nest.copied(alloc),
+    let derivation_count = parts.derived.items.len();
+    let name_count = parts.names.as_slice().len();
+    parts.derived.items.append(&mut cut.derived.items)?;
+    if parts.names.append(cut.names.as_slice()).is_err() {
+        parts.derived.items.truncate(derivation_count);
+        return Err(NoMemory);
     }
-}
-
-/// What is inside the first `more` loops.
-fn inside(nest: &Nest, more: usize) -> &Nest
-    ensures { tree_of result.now ≡ without_loops more (tree_of nest.now) }
-{
-    if more == 0 {
-        return nest;
+    if parts.extents.items.append(&mut cut.extents.items).is_err() {
+        parts.names.truncate(name_count);
+        parts.derived.items.truncate(derivation_count);
+        return Err(NoMemory);
     }
-    match nest {
-        Nest::Loop { body, .. } => inside(body, more - 1),
-        Nest::Pre { .. } => nest,
-        Nest::Leaf { .. } => nest,
-    }
-}
-
-/// The nest with these loops around it.
-fn around(alloc: Global, heads: &[Head], inner: Nest) -> Result<Nest, NoMemory>
-    ensures { IfOk result (λ n. tree_of n ≡ loops_around heads.now (tree_of inner)) }
-{
-    match heads.split_first() {
-        None => Ok(inner),
-        Some((head, rest)) => {
-            let body = around(alloc, rest, inner)?;
-            let body = Box::new(alloc, body)?;
-            Ok(Nest::Loop {
-                var: head.var,
-                extent: head.extent,
-                walk: None,
-                body,
-            })
-        }
-    }
-}
-
-/// The same tree with more guards at each leaf.
-fn with_guards(alloc: Global, nest: &Nest, more: &[u32]) -> Result<Nest, NoMemory>
-    ensures { IfOk result (λ n. tree_of n ≡ guarded more.now (tree_of nest.now)) }
-{
-    match nest {
-        Nest::Loop {
-            var,
-            extent,
-            walk,
-            body,
-        } => {
-            let walk = walk_copied(alloc, walk)?;
-            let inner = with_guards(alloc, body, more)?;
-            let body = Box::new(alloc, inner)?;
-            Ok(Nest::Loop {
-                var: *var,
-                extent: *extent,
-                walk,
-                body,
-            })
-        }
-        Nest::Pre {
-            work,
-            pairs,
-            producer,
-            consumer,
-        } => {
-            let pairs = pairs.copied(alloc)?;
-            let first = with_guards(alloc, producer, more)?;
-            let producer = Box::new(alloc, first)?;
-            let second = with_guards(alloc, consumer, more)?;
-            let consumer = Box::new(alloc, second)?;
-            Ok(Nest::Pre {
-                work: *work,
-                pairs,
-                producer,
-                consumer,
-            })
-        }
-        Nest::Leaf {
-            lhs,
-            terms,
-            guards,
-            kernel,
-        } => {
-            let lhs = access_copied(alloc, lhs)?;
-            let terms = terms_copied(alloc, terms)?;
-            let guards = joined(alloc, guards.as_slice(), more)?;
-            Ok(Nest::Leaf {
-                lhs,
-                terms,
-                guards: Vars::from_vec(guards),
-                kernel: *kernel,
-            })
-        }
-    }
-}
-
-/// Two lists, one after the other.
-fn joined(alloc: Global, first: &[u32], second: &[u32]) -> Result<Vec<u32>, NoMemory>
-    ensures { IfOk result (λ v. v.items ≡ first.now ++ second.now) }
-{
-    let mut items = Vec::from_slice(alloc, first)?;
-    items.extend_from_slice(second)?;
-    Ok(items)
+    Ok(())
 }

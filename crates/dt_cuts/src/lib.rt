@@ -3,6 +3,7 @@
 
 mod causes;
 mod cuts;
+mod in_place;
 
 pub use causes::{
     bad_number, communicated_loop, extent_of, first_new_loop, fixed_loop, name_of, not_free,

@@ -48,3 +48,4 @@ pub mod LawfulFit
 pub mod ZerosFit
 pub mod Marked
 pub mod PointTables
+pub mod Numbering

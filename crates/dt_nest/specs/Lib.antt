@@ -8,6 +8,7 @@ pub mod FitsStored
 pub mod Grid
 pub mod Lawful
 pub mod Meaning
+pub mod NameTables
 pub mod Naming
 pub mod Odometer
 pub mod Outputs

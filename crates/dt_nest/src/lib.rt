@@ -13,6 +13,7 @@ mod knowing;
 mod lanes;
 mod laws;
 mod loops;
+mod name_tables;
 mod naming;
 mod odometer;
 #[cfg(test)]
@@ -38,6 +39,7 @@ pub use copies::{access_copied, names_copied, terms_copied};
 pub use derivations::{Derivations, Derive, Derived};
 pub use laws::{fitting_are_zeros, sum_reads_tensors, visits_add_the_sum};
 pub use loops::{Kernel, Nest, Pair, Pairs, Walk, walk_copied};
+pub use name_tables::NameTable;
 pub use odometer::has_kernel;
 pub use parts::{Moved, MovedList, SchedParts, Work, Works};
 pub use path_laws::{

@@ -5,6 +5,7 @@ ghost use Rattle.std.specs.Prelude.{◌≡◌, IfOk, OnOk, OnErr, [], ◌∷◌,
 use crate::copies::extents_copied;
 use crate::derivations::Derivations;
 use crate::loops::Nest;
+use crate::name_tables::NameTable;
 use dt_base::{Extents, Name, Names, NoMemory};
 use std::alloc::Global;
 use std::marker::Model;
@@ -149,7 +150,7 @@ pub struct SchedParts {
     pub distributed: u32,
     pub moved: MovedList,
     pub tensors: Names,
-    pub names: Names,
+    pub names: NameTable,
     pub extents: Extents,
     pub works: Works,
 }

@@ -6,6 +6,7 @@ use crate::chains::chain_around;
 use crate::copies::{access_copied, extents_copied, names_copied, terms_copied};
 use crate::derivations::Derivations;
 use crate::loops::{Kernel, Nest};
+use crate::name_tables::NameTable;
 use crate::parts::{MovedList, SchedParts, Works};
 use dt_base::{Names, NoMemory, Vars};
 use dt_model::Stmt;
@@ -86,7 +87,7 @@ impl Sched {
             distributed: 0,
             moved: MovedList::new(alloc),
             tensors: names_copied(alloc, tensors)?,
-            names: names_copied(alloc, vars)?,
+            names: NameTable::of(alloc, vars)?,
             extents: extents_copied(alloc, &stmt.extents)?,
             works: Works::new(alloc),
         };

@@ -72,7 +72,7 @@ impl Rewrite for Collapse {
         ensures { result ≡ collapse_cause self.now (seen parts.now) }
     {
         unknown_loop(parts, &[self.outer, self.inner])
-            .or_else(|| taken_name(parts.names.as_slice(), &[self.fused.copied()]))
+            .or_else(|| taken_name(&parts.names, &[self.fused.copied()]))
             .or_else(|| unless(
                 is_chain(&parts.nest, &[self.outer, self.inner]),
                 Cause::NotAdjacent,

@@ -69,7 +69,7 @@ impl Rewrite for Rotate {
         let by = self.by.as_slice();
         unknown_loop(parts, &[self.var])
             .or_else(|| unknown_loop(parts, by))
-            .or_else(|| taken_name(parts.names.as_slice(), &[self.fresh.copied()]))
+            .or_else(|| taken_name(&parts.names, &[self.fresh.copied()]))
             .or_else(|| not_outer(parts, self.var, by))
             .or_else(|| not_free(parts, &[self.var]))
     }

@@ -29,7 +29,7 @@ pub fn two_loops_cause(
     let names = [outer.copied(), inner.copied()];
     unknown_loop(parts, &[v])
         .or_else(|| bad_number(number))
-        .or_else(|| taken_name(parts.names.as_slice(), &names))
+        .or_else(|| taken_name(&parts.names, &names))
         .or_else(|| too_many_loops(parts))
         .or_else(|| not_free(parts, &[v]))
 }

@@ -9,7 +9,7 @@ use Rattle.dt_nest.proofs.schedules.Sched.of_stmt.Goals as goal
 pub from_parts-requires : goal.from_parts-requires
 unfolding stmt_schedule
 from_parts-requires c =
-    let made : Schedule = seen (record { nest = c.in_ok-chain_around.field-0; derived = c.new-2.result; distributed = 0; moved = c.new-3.result; tensors = c.in_ok-names_copied.field-0; names = c.in_ok-names_copied-2.field-0; extents = c.in_ok-extents_copied.field-0; works = c.new-4.result }) in
+    let made : Schedule = seen (record { nest = c.in_ok-chain_around.field-0; derived = c.new-2.result; distributed = 0; moved = c.new-3.result; tensors = c.in_ok-names_copied.field-0; names = c.in_ok-of.field-0; extents = c.in_ok-extents_copied.field-0; works = c.new-4.result }) in
     let e : made ≡ stmt_schedule c.args.stmt.now c.args.vars.now c.args.tensors.now = search rules in
     subst (λ (s : Schedule). IsLawful s) (sym e) (stmt_lawful _ _ _ c.requires)
 
