@@ -1,4 +1,4 @@
-use Rattle.std.proofs.Common.{◌≡◌, ◌<◌, ℕ, true, List, [], Option, Some, refl, sym, ap, ◌∙◌, subst}
+use Rattle.std.proofs.Common.{◌≡◌, ◌<◌, ℕ, true, List, [], Some, refl, sym, ap, ◌∙◌, subst}
 use Rattle.dt_nest.specs.Schedule.{Schedule, seen}
 use Rattle.dt_nest.specs.World.{world_of}
 use Rattle.dt_nest.specs.Odometer.{pairs_at}
