@@ -12,6 +12,7 @@ mod ops;
 mod parts;
 mod plan_end;
 mod touches;
+mod visit_limit;
 
 pub use kind::Kind;
 pub use laws::{
@@ -21,3 +22,4 @@ pub use ops::{Op, Ops};
 pub use parts::{Part, Parts};
 pub use plan_end::PlanEnd;
 pub use touches::{Buffer, Mode, Touch, Touches};
+pub use visit_limit::has_too_many_visits;

@@ -1,21 +1,16 @@
-use Rattle.std.proofs.Common.{◌<◌, length, ap, sym, subst, ◌∙◌}
+use Rattle.std.proofs.Common.{◌<◌, length, refl, ap, sym, subst, ◌∙◌}
 use Rattle.dt_job.specs.contracts.draft.Draft.{the_view}
 use Rattle.dt_job.specs.Drafts.{DraftView, IsScheduled, grid_of}
 use Rattle.dt_job.specs.Phases.{knows_machine}
-use Rattle.dt_job.proofs.ContentFacts.{closed_draft, rested_draft}
+use Rattle.dt_job.proofs.ContentFacts.{OpenFacts, closed_draft, open_facts, rested_draft}
 use Rattle.dt_job.proofs.draft.Draft.close.Goals as goal
 
+facts : (c : goal.In-Open) → OpenFacts (the_view c.self.inside) c.in-Open.scheduled
+facts c = open_facts (the_view c.self.inside) c.in-Open.scheduled (sym c.replace.ensures.value ∙ c.in-Open.is) c.self.invariant
+
 pub invariant_of-self : goal.invariant_of-self
-invariant_of-self c = (
-  rested_draft (the_view c.self.inside) c.push.new.self.items c.enter.new.self (ap (λ (d : DraftView). knows_machine d.phase) c.self.view_is ∙ c.requires.machine) c.in_err-push.ensures.items c.enter.ensures c.self.invariant.0,
-  c.self.invariant.1,
-)
+invariant_of-self c = rested_draft (the_view c.self.inside) c.push.new.self.items c.replace.new.dest (facts c).known c.in_err-push.ensures.items c.replace.ensures.after c.self.invariant
 
 pub invariant_of-self-2 : goal.invariant_of-self-2
-invariant_of-self-2 c = (
-  closed_draft (the_view c.self.inside) c.args.scheduled c.push.new.self.items c.enter.new.self (ap (λ (d : DraftView). knows_machine d.phase) c.self.view_is ∙ c.requires.machine)
-      (let F : DraftView → Type 0 = λ d. length d.closed < 32 in subst F (sym c.self.view_is) c.requires.few)
-      (let P : DraftView → Type 0 = λ d. IsScheduled (grid_of d.machine) d.tensors c.args.scheduled in subst P (sym c.self.view_is) c.requires.lawful)
-      c.in_ok-push.ensures.items c.enter.ensures c.self.invariant.0,
-  c.self.invariant.1,
-)
+invariant_of-self-2 c =
+    closed_draft (the_view c.self.inside) c.in-Open.scheduled c.push.new.self.items c.replace.new.dest (facts c).known (facts c).few (facts c).lawful c.in_ok-push.ensures.items c.replace.ensures.after c.self.invariant
