@@ -72,7 +72,7 @@ impl Declarations {
 
     /// The number of the tensor with this name.
     pub fn number_of(&self, name: &[u8]) -> Option<u32>
-        ensures number { result ≡ place_of name (known_of self.now) }
+        ensures number { result ≡ place_of name.now (known_of self.now) }
         ensures within { IfSome result (λ k. k < length self.now) }
     {
         match self.tensors.get_index_of(Key(name)) {

@@ -48,7 +48,7 @@ impl Draft {
     ghost use Rattle.dt_job.specs.Contents.{known_of, position_count_of, with_placement, with_values};
     ghost use Rattle.dt_job.specs.Drafts.{DraftView, FitsMachine, IsDraft, IsScheduled, empty_draft, grid_of};
     ghost use Rattle.dt_job.specs.Jobs.{IsJob, ShowsBelow};
-    ghost use Rattle.dt_job.specs.Lines.{schedule_line};
+    ghost use Rattle.dt_job.specs.ScheduleLine.{schedule_line};
     ghost use Rattle.dt_job.specs.Phases.{is_whole, knows_machine, open_stmt, takes_declaration, takes_distal, takes_machine, takes_output};
     ghost use Rattle.dt_job.specs.Read.{job_on, stmts_of};
     ghost use Rattle.dt_job.specs.declared.phases.Phase.TheVariants as phases;
