@@ -121,7 +121,8 @@ impl Draft {
         ensures ok { OnOk result (self.new ≡ record self.old { tensors = self.old.tensors ++ (name, record { extents = dims shape; values = None; placement = None }) ∷ [] }) }
         ensures err { OnErr result (self.new ≡ self.old) }
     {
-        self.declared.add(name, shape)
+        self.declared.add(name, shape)?;
+        Ok(())
     }
 
     /// The numbers of a tensor, in row-major order.

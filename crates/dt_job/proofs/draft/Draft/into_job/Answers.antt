@@ -27,13 +27,13 @@ known : (c : goal.After-from_vec) → c.args.self.machine ≡ Some c.unwrap-mach
 known c = ap (λ (d : DraftView). d.machine) (sym c.self.view_is) ∙ c.unwrap-machine.ensures
 
 job : goal.After-from_vec → Job
-job c = record { machine = c.unwrap-machine.result; names = c.in-into_parts.names; tensors = c.from_list.result; places = c.from_vec.result; heads = c.in_ok-heads.heads; parts = c.in_ok-heads.parts; shows = c.self.inside.shows }
+job c = record { machine = c.unwrap-machine.result; names = c.into_parts-names.result.0; tensors = c.from_list.result; places = c.from_vec.result; heads = c.in_ok-heads.heads; parts = c.in_ok-heads.parts; shows = c.self.inside.shows }
 
 made : (c : goal.After-from_vec) → job c ≡ job_on c.args.self c.unwrap-machine.result
 unfolding job
 made c =
     made_job c.args.self c.unwrap-machine.result (job c) c.loop-name.tensors.items c.loop-name.places.items c.loop-name._name-iterator
-    (λ i. c.unwrap-machine.result) (c.into_parts.ensures.names ∙ ap (λ (d : DraftView). names_of d.tensors) c.self.view_is) c.from_list.ensures c.from_vec.ensures
+    (λ i. c.unwrap-machine.result) (c.into_parts-names.ensures.names ∙ ap (λ (d : DraftView). names_of d.tensors) c.self.view_is) c.from_list.ensures c.from_vec.ensures
     (c.in_ok-heads.ensures.heads ∙ ap (λ (d : DraftView). map (λ (s : ScheduledView). s.head) d.closed) c.self.view_is)
     (c.in_ok-heads.ensures.parts ∙ ap (λ (d : DraftView). map part_of d.closed) c.self.view_is)
     (ap (λ (d : DraftView). d.shows) c.self.view_is) c.in-None.ensures.steps.0 c.loop-name.invariant.tensors c.loop-name.invariant.places
