@@ -1,4 +1,5 @@
-use Rattle.std.proofs.Common.{◌≡◌, Option, Some, ap, sym, subst, ◌∙◌, unwrap_or}
+use Rattle.std.proofs.Common.{◌≡◌, [], Option, Some, ap, sym, subst, ◌∙◌, unwrap_or}
+use Rattle.dt_nest.specs.Chain.{stmt_schedule}
 use Rattle.dt_nest.specs.Schedule.{Schedule}
 use Rattle.dt_job.specs.Contents.{names_of, stored_of_all}
 use Rattle.dt_job.specs.Drafts.{IsScheduled}
@@ -9,7 +10,7 @@ pub returns-in-Ok-clause-lawful : goal.returns-in-Ok-clause-lawful
 returns-in-Ok-clause-lawful c =
     let had : c.self.inside.sched ≡ Some c.unwrap-sched.result = sym c.take.ensures.value ∙ c.unwrap-sched.ensures in
     let is : c.args.self.now ≡ record { stmt = c.self.inside.stmt; head = c.self.inside.head; sched = c.unwrap-sched.result } =
-    sym c.self.view_is ∙ ap (λ (o : Option Schedule). record { stmt = c.self.inside.stmt; head = c.self.inside.head; sched = unwrap_or o _ }) had in
+    sym c.self.view_is ∙ ap (λ (o : Option Schedule). record { stmt = c.self.inside.stmt; head = c.self.inside.head; sched = unwrap_or o (stmt_schedule c.self.inside.stmt [] []) }) had in
     let old = subst (IsScheduled c.args.grid.now c.args.declared.now) is c.requires.lawful in
     record {
       stmt = old.stmt;
