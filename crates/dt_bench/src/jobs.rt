@@ -1,6 +1,7 @@
 //! Jobs over square matrices, by the number of their rows.
 
-ghost use Rattle.std.specs.Prelude.{IfOk};
+ghost use Rattle.std.specs.Prelude.{IfOk, List};
+ghost use Rattle.dt_model.specs.declared.stmt.Stmt.{Stmt};
 ghost use Rattle.dt_job.specs.Jobs.{IsJob};
 
 use crate::case_end::CaseEnd;
@@ -46,7 +47,7 @@ end
 
 /// The job of a text with this number in place of each `#`.
 pub fn job_of_size(alloc: Global, text: &[u8], size: u32) -> Result<Job, CaseEnd>
-    ensures { IfOk result IsJob }
+    ensures { IfOk result (λ job. (stmts : List Stmt) × IsJob stmts job) }
 {
     let mut buffer = Buffer::new();
     let digits = buffer.format(size).as_bytes();

@@ -25,11 +25,11 @@ use Rattle.dt_job.specs.Drafts.{DraftView, FitsMachine, IsDraft, IsPlaced, IsSch
 use Rattle.dt_job.specs.Jobs.{FitsOn, IsJob, IsJobStmt, IsJobTensor, ShowsBelow}
 use Rattle.dt_job.specs.PartsOf.{ArePartsOf}
 use Rattle.dt_job.specs.Phases.{is_past_declarations, knows_machine, open_stmt, takes_declaration, takes_machine}
-use Rattle.dt_job.specs.Read.{job_on}
+use Rattle.dt_job.specs.Read.{job_on, stmts_of}
 use Rattle.dt_job.specs.declared.phases.Phase.{Phase}
 use Rattle.dt_job.specs.declared.phases.Phase.TheVariants as phases
-use Rattle.dt_job.specs.declared.parts.Part.{Part}
-use Rattle.dt_job.specs.declared.scheduled.Scheduled.{Scheduled}
+use Rattle.dt_plan.specs.declared.parts.Part.{Part}
+use Rattle.dt_job.specs.Scheduled.{ScheduledView}
 use Rattle.dt_job.specs.declared.job.Job.{Job}
 use Rattle.dt_job.proofs.PhaseFacts.{declaration_phase, machine_phase}
 use Rattle.dt_tensor.specs.Packed.{Packed, dense_levels, stored_of}
@@ -84,7 +84,7 @@ changed_tensors d tensors early h placed more few differ stored = record {
   differ = differ;
   stored = stored;
   few_stmts = h.few_stmts;
-  stmts = (let P : List Scheduled → Type 0 = λ l. All (IsScheduled (grid_of d.machine) tensors) l in subst P (sym (h.begun (declaration_phase d.phase early))) (λ k s l. absurd (omega (arith, l))));
+  stmts = (let P : List ScheduledView → Type 0 = λ l. All (IsScheduled (grid_of d.machine) tensors) l in subst P (sym (h.begun (declaration_phase d.phase early))) (λ k s l. absurd (omega (arith, l))));
   begun = h.begun;
   shows = λ k s l. below_more (length d.tensors) (length tensors) (get_or d.shows k s) (omega (arith, more)) (h.shows k s l);
 }
@@ -106,7 +106,8 @@ declared_draft d name c shape tensors early few h is lawful e differ =
     changed_tensors d tensors early h (subst P (sym e) (All-push (IsPlaced d.machine) d.tensors (name, c) h.places (subst O (sym (ap (λ (x : Content). x.placement) is)) tt)))
     (omega (arith, count)) (omega (arith, count, few)) differ (subst S (sym shapes) (stored_more (extents_of_all d.tensors) (dims shape) h.stored (IsStored-dense shape lawful)))
 
-count_kept : (tensors : Contents) (k : ℕ) (c : Content) → length (set_value_at tensors k c) ≡ length tensors
+-- as many tensors stand there where one changes
+pub count_kept : (tensors : Contents) (k : ℕ) (c : Content) → length (set_value_at tensors k c) ≡ length tensors
 count_kept [] k c = refl
 count_kept (t ∷ ts) zero c = refl
 count_kept (t ∷ ts) (suc k) c = ap suc (count_kept ts k c)
@@ -158,19 +159,33 @@ changed_draft d k was now early g e p h =
     changed_tensors d (set_value_at d.tensors k now) early h (all_set (λ c. IfSome c.placement (FitsMachine d.machine)) d.tensors k now p h.places) (omega (arith, count)) (omega (arith, h.few, count))
     (subst N (sym (names_kept d.tensors k now)) h.differ) (subst S (sym (extents_kept d.tensors k was now g e)) h.stored)
 
--- a tensor gets numbers
-pub given_draft : (d : DraftView) (k : ℕ) (was now : Content) → takes_declaration d.phase ≡ true → option_map (λ t. t.1) (slice_get d.tensors k) ≡ Some was → now.extents ≡ was.extents → now.placement ≡ was.placement → IsDraft d
+gets_numbers : (d : DraftView) (k : ℕ) (was now : Content) → takes_declaration d.phase ≡ true → option_map (λ t. t.1) (slice_get d.tensors k) ≡ Some was → now.extents ≡ was.extents → now.placement ≡ was.placement → IsDraft d
     → IsDraft (record d { tensors = set_value_at d.tensors k now })
-given_draft d k was now early g e p h =
+gets_numbers d k was now early g e p h =
     let O : Option Placement → Type 0 = λ o. IfSome o (FitsMachine d.machine) in
     changed_draft d k was now early g e (subst O (sym p) (all_at (λ c. IfSome c.placement (FitsMachine d.machine)) d.tensors k was g h.places)) h
 
--- a tensor is placed
-pub placed_draft : (d : DraftView) (k : ℕ) (was now : Content) (p : Placement) → takes_declaration d.phase ≡ true → option_map (λ t. t.1) (slice_get d.tensors k) ≡ Some was → now.extents ≡ was.extents → now.placement ≡ Some p → FitsMachine d.machine p → IsDraft d
+gets_placed : (d : DraftView) (k : ℕ) (was now : Content) (p : Placement) → takes_declaration d.phase ≡ true → option_map (λ t. t.1) (slice_get d.tensors k) ≡ Some was → now.extents ≡ was.extents → now.placement ≡ Some p → FitsMachine d.machine p → IsDraft d
     → IsDraft (record d { tensors = set_value_at d.tensors k now })
-placed_draft d k was now p early g e n f h =
+gets_placed d k was now p early g e n f h =
     let O : Option Placement → Type 0 = λ o. IfSome o (FitsMachine d.machine) in
     changed_draft d k was now early g e (subst O (sym n) f) h
+
+-- a tensor gets numbers
+pub given_draft : (d : DraftView) (k : ℕ) (values : List ℕ) → takes_declaration d.phase ≡ true → IsDraft d → IsDraft (record d { tensors = with_values d.tensors k values })
+given_draft d k values early h = go (slice_get d.tensors k) refl
+  where
+    go : (o : Option (List ℕ × Content)) → slice_get d.tensors k ≡ o → IsDraft (record d { tensors = unwrap_or (option_map (λ t. set_value_at d.tensors k (record t.1 { values = Some values })) o) d.tensors })
+    go None e = h
+    go (Some t) e = gets_numbers d k t.1 (record t.1 { values = Some values }) early (ap (λ (o : Option (List ℕ × Content)). option_map (λ u. u.1) o) e) refl refl h
+
+-- a tensor is placed
+pub placed_draft : (d : DraftView) (k : ℕ) (p : Placement) → takes_declaration d.phase ≡ true → FitsMachine d.machine p → IsDraft d → IsDraft (record d { tensors = with_placement d.tensors k p })
+placed_draft d k p early f h = go (slice_get d.tensors k) refl
+  where
+    go : (o : Option (List ℕ × Content)) → slice_get d.tensors k ≡ o → IsDraft (record d { tensors = unwrap_or (option_map (λ t. set_value_at d.tensors k (record t.1 { placement = Some p })) o) d.tensors })
+    go None e = h
+    go (Some t) e = gets_placed d k t.1 (record t.1 { placement = Some p }) p early (ap (λ (o : Option (List ℕ × Content)). option_map (λ u. u.1) o) e) refl refl f h
 
 -- the names of the tensors, with one more
 pub named_more : (was : Contents) (name : List ℕ) (c : Content) (tensors : Contents) (front names : List (List ℕ)) → front ≡ names_of was → names ≡ front ++ name ∷ [] → tensors ≡ was ++ (name, c) ∷ [] → names ≡ names_of tensors
@@ -218,8 +233,8 @@ fits_none None m h = tt
 fits_none (Some p) m h = absurd h
 
 -- no statement is lawful or not
-none_stated : (dims : List ℕ) (tensors : Contents) (closed : List Scheduled) → closed ≡ [] → All (IsScheduled dims tensors) closed
-none_stated dims tensors closed e = (let P : List Scheduled → Type 0 = λ l. All (IsScheduled dims tensors) l in subst P (sym e) (λ k s l. absurd (omega (arith, l))))
+none_stated : (dims : List ℕ) (tensors : Contents) (closed : List ScheduledView) → closed ≡ [] → All (IsScheduled dims tensors) closed
+none_stated dims tensors closed e = (let P : List ScheduledView → Type 0 = λ l. All (IsScheduled dims tensors) l in subst P (sym e) (λ k s l. absurd (omega (arith, l))))
 
 -- the machine comes: until then no line places a tensor
 pub machine_draft : (d : DraftView) (m : MachineView) (next : Phase) → takes_machine d.phase ≡ true → next ≡ phases.Declarations → IsDraft d → IsDraft (record d { machine = Some m; phase = next })
@@ -245,25 +260,25 @@ machine_draft d m next at n h =
 -- Statements -----------------------------------------------------------------------------------------------------------------
 
 -- what is so of all statements is so of those that are closed
-closed_all : (P : Scheduled → Type 0) (closed : List Scheduled) (o : Option Scheduled) → All P (unwrap_or (option_map (λ s. closed ++ s ∷ []) o) closed) → All P closed
+closed_all : (P : ScheduledView → Type 0) (closed : List ScheduledView) (o : Option ScheduledView) → All P (unwrap_or (option_map (λ s. closed ++ s ∷ []) o) closed) → All P closed
 closed_all P closed None h = h
 closed_all P closed (Some s) h = λ k d l. subst P (get_or_append_left closed (s ∷ []) d k l) (h k d (omega (arith, l, length-append closed (s ∷ []))))
 
 -- and of the open one
-open_all : (P : Scheduled → Type 0) (closed : List Scheduled) (s : Scheduled) → All P (closed ++ s ∷ []) → P s
+open_all : (P : ScheduledView → Type 0) (closed : List ScheduledView) (s : ScheduledView) → All P (closed ++ s ∷ []) → P s
 open_all P closed s h = subst P (get_or-append_seam closed s [] s) (h (length closed) s (omega (arith, length-append closed (s ∷ []))))
 
 true_not_false : ◌≡◌ {A = Bool} true false → ⊥
 true_not_false e = cc
 
-closed_few : (closed : List Scheduled) (o : Option Scheduled) → length closed ≤ length (unwrap_or (option_map (λ s. closed ++ s ∷ []) o) closed)
+closed_few : (closed : List ScheduledView) (o : Option ScheduledView) → length closed ≤ length (unwrap_or (option_map (λ s. closed ++ s ∷ []) o) closed)
 closed_few closed None = omega arith
 closed_few closed (Some s) = omega (arith, length-append closed (s ∷ []))
 
 -- no statement is open any more
-pub rested_draft : (d : DraftView) (closed : List Scheduled) (next : Phase) → knows_machine d.phase ≡ true → closed ≡ d.closed → next ≡ phases.Statements → IsDraft d → IsDraft (record d { closed = closed; phase = next })
+pub rested_draft : (d : DraftView) (closed : List ScheduledView) (next : Phase) → knows_machine d.phase ≡ true → closed ≡ d.closed → next ≡ phases.Statements → IsDraft d → IsDraft (record d { closed = closed; phase = next })
 rested_draft d closed next k e n h =
-    let C : List Scheduled → Type 0 = λ l. IsDraft (record d { closed = l; phase = next }) in
+    let C : List ScheduledView → Type 0 = λ l. IsDraft (record d { closed = l; phase = next }) in
     let N : Phase → Type 0 = λ p. IsDraft (record d { phase = p }) in
     subst C (sym e) (subst N (sym n) (record {
       machine = h.machine ∙ k;
@@ -278,10 +293,10 @@ rested_draft d closed next k e n h =
     }))
 
 -- one more statement
-more_draft : (d : DraftView) (s : Scheduled) (closed : List Scheduled) → knows_machine d.phase ≡ true → length d.closed < 32 → IsScheduled (grid_of d.machine) d.tensors s → closed ≡ d.closed ++ s ∷ [] → IsDraft d
+more_draft : (d : DraftView) (s : ScheduledView) (closed : List ScheduledView) → knows_machine d.phase ≡ true → length d.closed < 32 → IsScheduled (grid_of d.machine) d.tensors s → closed ≡ d.closed ++ s ∷ [] → IsDraft d
     → IsDraft (record d { closed = closed; phase = phases.Statements })
 more_draft d s closed k few l e h =
-    let C : List Scheduled → Type 0 = λ l. IsDraft (record d { closed = l; phase = phases.Statements }) in
+    let C : List ScheduledView → Type 0 = λ l. IsDraft (record d { closed = l; phase = phases.Statements }) in
     subst C (sym e) (record {
       machine = h.machine ∙ k;
       places = h.places;
@@ -295,14 +310,14 @@ more_draft d s closed k few l e h =
     })
 
 -- a statement is closed
-pub closed_draft : (d : DraftView) (s : Scheduled) (closed : List Scheduled) (next : Phase) → knows_machine d.phase ≡ true → length d.closed < 32 → IsScheduled (grid_of d.machine) d.tensors s → closed ≡ d.closed ++ s ∷ [] → next ≡ phases.Statements → IsDraft d
+pub closed_draft : (d : DraftView) (s : ScheduledView) (closed : List ScheduledView) (next : Phase) → knows_machine d.phase ≡ true → length d.closed < 32 → IsScheduled (grid_of d.machine) d.tensors s → closed ≡ d.closed ++ s ∷ [] → next ≡ phases.Statements → IsDraft d
     → IsDraft (record d { closed = closed; phase = next })
 closed_draft d s closed next k few l e n h =
     let N : Phase → Type 0 = λ p. IsDraft (record d { closed = closed; phase = p }) in
     subst N (sym n) (more_draft d s closed k few l e h)
 
 -- a statement is opened
-pub opened_draft : (d : DraftView) (s : Scheduled) (next : Phase) → knows_machine d.phase ≡ true → length d.closed < 32 → IsScheduled (grid_of d.machine) d.tensors s → next ≡ phases.Open s → IsDraft d → IsDraft (record d { phase = next })
+pub opened_draft : (d : DraftView) (s : ScheduledView) (next : Phase) → knows_machine d.phase ≡ true → length d.closed < 32 → IsScheduled (grid_of d.machine) d.tensors s → next ≡ phases.Open s → IsDraft d → IsDraft (record d { phase = next })
 opened_draft d s next k few l n h =
     let N : Phase → Type 0 = λ p. IsDraft (record d { phase = p }) in
     let m : IsDraft (record d { closed = d.closed ++ s ∷ []; phase = phases.Statements }) = more_draft d s (d.closed ++ s ∷ []) k few l refl h in
@@ -319,12 +334,12 @@ opened_draft d s next k few l n h =
     })
 
 -- what a draft says of its open statement
-pub record OpenFacts (d : DraftView) (s : Scheduled) : Type 0 where
+pub record OpenFacts (d : DraftView) (s : ScheduledView) : Type 0 where
   pub known : knows_machine d.phase ≡ true
   pub few : length d.closed < 32
   pub lawful : IsScheduled (grid_of d.machine) d.tensors s
 
-pub open_facts : (d : DraftView) (s : Scheduled) → d.phase ≡ phases.Open s → IsDraft d → OpenFacts d s
+pub open_facts : (d : DraftView) (s : ScheduledView) → d.phase ≡ phases.Open s → IsDraft d → OpenFacts d s
 open_facts d s e h =
     let L : Phase → Type 0 = λ p. length (stated (record d { phase = p })) ≤ 32 in
     let P : Phase → Type 0 = λ p. All (IsScheduled (grid_of d.machine) d.tensors) (stated (record d { phase = p })) in
@@ -358,31 +373,31 @@ stored_kept [] = refl
 stored_kept (t ∷ ts) = ap (λ (l : List StoredTensor). dense_levels t.1.extents ∷ l) (stored_kept ts)
 
 -- statements with their schedules are parts
-are_parts : (dims : List ℕ) (tensors : Contents) (closed : List Scheduled) → All (IsScheduled dims tensors) closed → ArePartsOf dims (stored_of_all tensors) (names_of tensors) (map (λ s. s.stmt) closed) (map part_of closed)
+are_parts : (dims : List ℕ) (tensors : Contents) (closed : List ScheduledView) → All (IsScheduled dims tensors) closed → ArePartsOf dims (stored_of_all tensors) (names_of tensors) (map (λ s. s.stmt) closed) (map part_of closed)
 are_parts dims tensors [] h = tt
 are_parts dims tensors (s ∷ closed) h = ((h 0 s (omega arith)).part, are_parts dims tensors closed (all_behind (IsScheduled dims tensors) s closed h))
 
 -- no part is in another segment than the first
-first_segment : (closed : List Scheduled) (k d : ℕ) → k < length (map (λ (p : Part). p.segment) (map part_of closed)) → get_or (map (λ (p : Part). p.segment) (map part_of closed)) k d ≡ 0
+first_segment : (closed : List ScheduledView) (k d : ℕ) → k < length (map (λ (p : Part). p.segment) (map part_of closed)) → get_or (map (λ (p : Part). p.segment) (map part_of closed)) k d ≡ 0
 first_segment [] k d l = absurd (omega (arith, l))
 first_segment (s ∷ closed) zero d l = refl
 first_segment (s ∷ closed) (suc k) d l = first_segment closed k d (omega (arith, l))
 
 -- so the segments never fall
-segments_stay : (closed : List Scheduled) → IsSortedBy nat_lt (map (λ (p : Part). p.segment) (map part_of closed))
+segments_stay : (closed : List ScheduledView) → IsSortedBy nat_lt (map (λ (p : Part). p.segment) (map part_of closed))
 segments_stay closed k d low l =
     ap (λ (n : ℕ). nat_lt n (get_or (map (λ (p : Part). p.segment) (map part_of closed)) k d)) (first_segment closed (k + 1) d l)
     ∙ ap (λ (n : ℕ). nat_lt 0 n) (first_segment closed k d (omega (arith, l)))
 
 -- the job of a lawful draft
-pub lawful_job : (d : DraftView) (m : MachineView) (j : Job) → j ≡ job_on d m → d.machine ≡ Some m → IsDraft d → All IsJobTensor j.tensors → IsJob j
+pub lawful_job : (d : DraftView) (m : MachineView) (j : Job) → j ≡ job_on d m → d.machine ≡ Some m → IsDraft d → All IsJobTensor j.tensors → IsJob (stmts_of d) j
 lawful_job d m j e k h t =
     let P : Job → Type 0 = λ k. All IsJobTensor k.tensors in
     let Q : Option MachineView → Type 0 = λ machine. All (IsPlaced machine) d.tensors in
     let S : List StoredTensor → Type 0 = λ l. ArePartsOf (dims_of m) l (names_of d.tensors) (map (λ s. s.stmt) d.closed) (map part_of d.closed) in
     let D : Option MachineView → Type 0 = λ machine. All (IsScheduled (grid_of machine) d.tensors) d.closed in
     let closed : D (Some m) = subst D k (closed_all (IsScheduled (grid_of d.machine) d.tensors) d.closed (open_stmt d.phase) h.stmts) in
-    subst IsJob (sym e) (record {
+    subst (IsJob (stmts_of d)) (sym e) (record {
       named = length-map d.tensors (λ c. c.0) ∙ sym (length-map d.tensors (λ c. tensor_of c.1));
       differ = h.differ;
       few = omega (arith, h.few, length-map d.tensors (λ c. tensor_of c.1));
@@ -390,7 +405,7 @@ lawful_job d m j e k h t =
       placed = length-map d.tensors (λ c. placement_of c.1) ∙ sym (length-map d.tensors (λ c. tensor_of c.1));
       places = places_fit m d.tensors (subst Q k h.places);
       few_stmts = omega (arith, h.few_stmts, closed_few d.closed (open_stmt d.phase), length-map d.closed (λ s. s.stmt));
-      stmts = rw (shapes_kept d.tensors) (All-map (IsJobStmt (extents_of_all d.tensors)) (λ (s : Scheduled). s.stmt) d.closed (λ k s l. (closed k s l).stmt));
+      stmts = rw (shapes_kept d.tensors) (All-map (IsJobStmt (extents_of_all d.tensors)) (λ (s : ScheduledView). s.stmt) d.closed (λ k s l. (closed k s l).stmt));
       headed = length-map d.closed (λ s. s.head) ∙ sym (length-map d.closed (λ s. s.stmt));
       parts = subst S (sym (stored_kept d.tensors)) (are_parts (dims_of m) d.tensors d.closed closed);
       segments = segments_stay d.closed;
@@ -399,12 +414,12 @@ lawful_job d m j e k h t =
 
 -- the job that is made where no tensor is left
 pub made_job : (d : DraftView) (m : MachineView) (j : Job) (tensors : List Packed) (places : List Placement) (rest : Contents)
-    → j.machine ≡ m → j.names ≡ names_of d.tensors → j.tensors ≡ tensors → j.places ≡ places → j.stmts ≡ map (λ s. s.stmt) d.closed → j.heads ≡ map (λ s. s.head) d.closed → j.parts ≡ map part_of d.closed → j.shows ≡ d.shows → rest ≡ []
+    → j.machine ≡ m → j.names ≡ names_of d.tensors → j.tensors ≡ tensors → j.places ≡ places → j.heads ≡ map (λ s. s.head) d.closed → j.parts ≡ map part_of d.closed → j.shows ≡ d.shows → rest ≡ []
     → tensors ++ tensors_of rest ≡ tensors_of d.tensors → places ++ places_of rest ≡ places_of d.tensors → j ≡ job_on d m
-made_job d m j tensors places rest x n t p s q u w r b c =
+made_job d m j tensors places rest x n t p q u w r b c =
     let all_tensors : j.tensors ≡ tensors_of d.tensors = t ∙ sym (append-nil tensors) ∙ ap (λ (ts : Contents). tensors ++ tensors_of ts) (sym r) ∙ b in
     let all_places : j.places ≡ places_of d.tensors = p ∙ sym (append-nil places) ∙ ap (λ (ts : Contents). places ++ places_of ts) (sym r) ∙ c in
-    λ i. record { machine = x i; names = n i; tensors = all_tensors i; places = all_places i; stmts = s i; heads = q i; parts = u i; shows = w i }
+    λ i. record { machine = x i; names = n i; tensors = all_tensors i; places = all_places i; heads = q i; parts = u i; shows = w i }
 
 -- the job of a draft whose machine is known
 pub job_of_draft : (d : DraftView) (m : MachineView) (j : Job) → d.machine ≡ Some m → j ≡ job_on d m → option_map (job_on d) d.machine ≡ Some j

@@ -3,8 +3,8 @@ use Rattle.std.proofs.Common.{◌≡◌, ℕ, List, [], ◌∷◌, ◌++◌, len
 use Rattle.std.proofs.lemmas.List.{append_assoc, map-append}
 
 -- what was made of the elements so far, with one more
-pub made_more : {A B : Type 0} (f : A → B) (front after : List B) (seen : List A) (x : A) → after ≡ front ++ f x ∷ [] → front ≡ map f seen → after ≡ map f (seen ++ x ∷ [])
-made_more f front after seen x a e = a ∙ ap (λ (l : List _). l ++ f x ∷ []) e ∙ sym (map-append f seen (x ∷ []))
+pub made_more : {A B : Type 0} (f : A → B) (front after : List B) (seen : List A) (x : A) (y : B) → y ≡ f x → after ≡ front ++ y ∷ [] → front ≡ map f seen → after ≡ map f (seen ++ x ∷ [])
+made_more f front after seen x y m a e = a ∙ ap (λ z. front ++ z ∷ []) m ∙ ap (λ (l : List _). l ++ f x ∷ []) e ∙ sym (map-append f seen (x ∷ []))
 
 -- one more element is gone through
 pub seen_more : {A : Type 0} (seen rest left whole : List A) (x : A) → rest ≡ x ∷ left → seen ++ rest ≡ whole → (seen ++ x ∷ []) ++ left ≡ whole

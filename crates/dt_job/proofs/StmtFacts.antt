@@ -79,5 +79,4 @@ first_part dims tensors s vars means h levels = record {
   output = output_chain 0 s.extents _;
   dense = dense_at (extents_of_all tensors) s.lhs.tensor (slice_get_within (extents_of_all tensors) s.lhs.tensor _ h.stands.target.fits);
   unread = ap (λ (l : List Access). has_access s.lhs.tensor l) (reads_chain 0 s.extents _) ∙ terms_have s.lhs.tensor s ∙ h.unread;
-  works = refl;
 }

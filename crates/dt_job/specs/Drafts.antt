@@ -6,10 +6,10 @@ use Rattle.dt_model.specs.Positions.{IsStored}
 use Rattle.dt_place.specs.Machines.{MachineView, dims_of}
 use Rattle.dt_place.specs.declared.placements.Placement.{Placement}
 use Rattle.dt_job.specs.declared.outputs.Show.{Show}
-use Rattle.dt_job.specs.declared.parts.Part.{Part}
+use Rattle.dt_plan.specs.declared.parts.Part.{Part}
 use Rattle.dt_job.specs.declared.phases.Phase.{Phase}
 use Rattle.dt_job.specs.declared.phases.Phase.TheVariants as phase
-use Rattle.dt_job.specs.declared.scheduled.Scheduled.{Scheduled}
+use Rattle.dt_job.specs.Scheduled.{ScheduledView}
 use Rattle.dt_job.specs.Contents.{Content, Contents, extents_of_all, names_of, stored_of_all}
 use Rattle.dt_job.specs.Jobs.{FitsOn, IsJobStmt, ShowsBelow}
 use Rattle.dt_job.specs.PartsOf.{IsPartOf}
@@ -20,7 +20,7 @@ use Rattle.dt_job.specs.Phases.{is_past_declarations, knows_machine, open_stmt}
 pub record DraftView : Type 0 where
   pub machine : Option MachineView
   pub tensors : Contents
-  pub closed : List Scheduled
+  pub closed : List ScheduledView
   pub shows : List Show
   pub phase : Phase
 
@@ -29,11 +29,11 @@ abbrev pub empty_draft : DraftView
 empty_draft = record { machine = None; tensors = []; closed = []; shows = []; phase = phase.Version }
 
 -- all statements so far: those that are closed, and the open one
-abbrev pub stated : DraftView → List Scheduled
+abbrev pub stated : DraftView → List ScheduledView
 stated d = unwrap_or (option_map (λ s. d.closed ++ s ∷ []) (open_stmt d.phase)) d.closed
 
 -- the part that a statement with its schedule is: until barriers come, all stand in segment 0
-abbrev pub part_of : Scheduled → Part
+abbrev pub part_of : ScheduledView → Part
 part_of s = record { sched = s.sched; adds = s.stmt.adds; segment = 0 }
 
 -- the machine's dimensions, and none until the machine is known
@@ -41,7 +41,7 @@ abbrev pub grid_of : Option MachineView → List ℕ
 grid_of machine = unwrap_or (option_map dims_of machine) []
 
 -- a statement over these tensors, with a schedule that means it on a machine with these dimensions
-pub record IsScheduled (dims : List ℕ) (tensors : Contents) (s : Scheduled) : Type 0 where
+pub record IsScheduled (dims : List ℕ) (tensors : Contents) (s : ScheduledView) : Type 0 where
   pub stmt : IsJobStmt (extents_of_all tensors) s.stmt
   pub part : IsPartOf dims (stored_of_all tensors) (names_of tensors) s.stmt (part_of s)
 

@@ -45,18 +45,18 @@ shapes_of_job j = map (λ t. t.extents) j.tensors
 abbrev pub FitsOn : MachineView → Placement → Type 0
 FitsOn m p = IsPlacement p m
 
--- At most 32 tensors, whose names differ, each with a placement that fits the machine, and at most 32 statements over
--- them, each with its text and its part, whose segments never fall; every output is one of them.
-pub record IsJob (j : Job) : Type 0 where
+-- A job of these statements: at most 32 tensors, whose names differ, each with a placement that fits the machine, and at most
+-- 32 statements over them, each with its text and its part, whose segments never fall; every output is one of the tensors.
+pub record IsJob (statements : List Stmt) (j : Job) : Type 0 where
   pub named : length j.names ≡ length j.tensors
   pub differ : IsDistinct bytes_eq j.names
   pub few : length j.tensors ≤ 32
   pub tensors : All IsJobTensor j.tensors
   pub placed : length j.places ≡ length j.tensors
   pub places : All (FitsOn j.machine) j.places
-  pub few_stmts : length j.stmts ≤ 32
-  pub stmts : All (IsJobStmt (shapes_of_job j)) j.stmts
-  pub headed : length j.heads ≡ length j.stmts
-  pub parts : ArePartsOf (dims_of j.machine) (map stored_of j.tensors) j.names j.stmts j.parts
+  pub few_stmts : length statements ≤ 32
+  pub stmts : All (IsJobStmt (shapes_of_job j)) statements
+  pub headed : length j.heads ≡ length statements
+  pub parts : ArePartsOf (dims_of j.machine) (map stored_of j.tensors) j.names statements j.parts
   pub segments : IsSortedBy nat_lt (map (λ p. p.segment) j.parts)
   pub shows : All (ShowsBelow (length j.tensors)) j.shows

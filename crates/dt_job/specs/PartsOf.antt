@@ -7,12 +7,11 @@ use Rattle.dt_nest.specs.FitsStored.{FitsStored}
 use Rattle.dt_nest.specs.Grid.{IsOnGrid}
 use Rattle.dt_nest.specs.Outputs.{IsUnread, output_of}
 use Rattle.dt_tensor.specs.Packed.{dense_levels}
-use Rattle.dt_job.specs.declared.parts.Part.{Part}
+use Rattle.dt_plan.specs.declared.parts.Part.{Part}
 
 -- A statement's part, over stored tensors with these names and a machine with these dimensions. Whatever the tensors' numbers
 -- are, the part's schedule means the statement at each index; the stored tensors fit it; its distributed loops are none or
--- the machine's dimensions; it writes the statement's left tensor, which has dense levels alone and is read nowhere; and it
--- has no workspaces.
+-- the machine's dimensions; and it writes the statement's left tensor, which has dense levels alone and is read nowhere.
 pub record IsPartOf (dims : List ℕ) (stored : List StoredTensor) (names : List (List ℕ)) (stmt : Stmt) (part : Part) : Type 0 where
   pub means : MeansStmt stmt part.sched
   pub adds : part.adds ≡ stmt.adds
@@ -22,7 +21,6 @@ pub record IsPartOf (dims : List ℕ) (stored : List StoredTensor) (names : List
   pub output : output_of part.sched.nest ≡ stmt.lhs.tensor
   pub dense : tensor_at stored stmt.lhs.tensor ≡ dense_levels (tensor_at stored stmt.lhs.tensor).extents
   pub unread : IsUnread stmt.lhs.tensor part.sched.nest
-  pub works : part.sched.works ≡ []
 
 -- one part for each statement, in order
 abbrev pub ArePartsOf : List ℕ → List StoredTensor → List (List ℕ) → List Stmt → List Part → Type 0

@@ -2,7 +2,7 @@
 use Rattle.std.specs.Prelude.{Bool, true, false, Option, Some, None}
 use Rattle.dt_job.specs.declared.phases.Phase.{Phase}
 use Rattle.dt_job.specs.declared.phases.Phase.TheVariants as phase
-use Rattle.dt_job.specs.declared.scheduled.Scheduled.{Scheduled}
+use Rattle.dt_job.specs.Scheduled.{ScheduledView}
 
 -- whether the line `distal` may come
 abbrev pub takes_distal : Phase → Bool
@@ -32,7 +32,7 @@ takes_stmt phase.Statements = true
 takes_stmt _ = false
 
 -- the open statement, where one is open
-abbrev pub open_stmt : Phase → Option Scheduled
+abbrev pub open_stmt : Phase → Option ScheduledView
 open_stmt (phase.Open s) = Some s
 open_stmt _ = None
 

@@ -1,21 +1,19 @@
 //! A whole job.
 
 use crate::outputs::Shows;
-use crate::parts::Parts;
 use dt_base::{Lines, Names};
-use dt_model::Stmts;
 use dt_place::{Machine, Places};
+use dt_plan::Parts;
 use dt_tensor::Tensors;
 
 /// A job that was read: the machine, and in the order of the text the tensors' names, the tensors as they are given, a
-/// placement for each of them, the statements, their texts as they are printed, their parts, and the outputs.
+/// placement for each of them, the statements' texts as they are printed, their parts, and the outputs.
 #[derive(Debug, Drop)]
 pub struct Job {
     pub machine: Machine,
     pub names: Names,
     pub tensors: Tensors,
     pub places: Places,
-    pub stmts: Stmts,
     pub heads: Lines,
     pub parts: Parts,
     pub shows: Shows,

@@ -1,8 +1,8 @@
 //! Which lines may come when.
 
-ghost use Rattle.std.specs.Prelude.{◌≡◌, true};
+ghost use Rattle.std.specs.Prelude.{◌≡◌, is_some, true};
 ghost use Rattle.std.specs.Bool.{OnTrue};
-ghost use Rattle.dt_job.specs.Phases.{is_whole, knows_machine, takes_declaration, takes_distal, takes_machine, takes_output, takes_stmt};
+ghost use Rattle.dt_job.specs.Phases.{is_whole, knows_machine, open_stmt, takes_declaration, takes_distal, takes_machine, takes_output, takes_stmt};
 
 use crate::scheduled::Scheduled;
 
@@ -64,6 +64,13 @@ impl Phase {
             self,
             Phase::Declarations | Phase::Statements | Phase::Outputs
         )
+    }
+
+    /// Whether a statement is open.
+    pub fn is_open(&self) -> bool
+        ensures { result ≡ is_some (open_stmt self.now) }
+    {
+        matches!(self, Phase::Open(_))
     }
 
     /// Whether the job may end here.

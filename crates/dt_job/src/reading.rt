@@ -1,13 +1,13 @@
 //! The job of a text.
 
-ghost use Rattle.std.specs.Prelude.{◌≡◌, ◌<◌, ◌-◌, ◌^◌, IfOk, [], length};
-ghost use Rattle.dt_job.specs.Jobs.{IsJob};
+ghost use Rattle.std.specs.Prelude.{◌≡◌, ◌<◌, ◌-◌, ◌^◌, [], length};
 ghost use Rattle.dt_job.specs.Read.{IsRead, at_line, job_of, lines_from};
 
 use crate::draft::Draft;
 use crate::job::Job;
+use crate::line_stop::LineStop;
 use crate::lines::read_line;
-use dt_model::{Cause, LineEnd};
+use dt_model::Cause;
 use dt_text::next_line;
 use std::alloc::Global;
 
@@ -18,11 +18,10 @@ pub enum JobEnd {
     NoMemory,
 }
 
-/// The job of the text, or its first line that has a cause.
+/// The job of the text, each of whose parts is one of its statement, or its first line that has a cause.
 pub fn read_job(alloc: Global, text: &[u8]) -> Result<Job, JobEnd>
     requires { length text.now < 2 ^ 32 - 1 }
-    ensures job { IsRead result (job_of text.now) }
-    ensures lawful { IfOk result IsJob }
+    ensures { IsRead result (job_of text.now) }
 {
     let mut draft = Draft::new(alloc);
     let mut at = 0u32;
@@ -34,7 +33,7 @@ pub fn read_job(alloc: Global, text: &[u8]) -> Result<Job, JobEnd>
         };
         match read_line(alloc, &mut draft, text, line) {
             Ok(()) => {}
-            Err(end) => return Err(at_line(number, end)),
+            Err(stop) => return Err(at_line(number, stop)),
         }
         at = line.after(text);
         number += 1;
@@ -44,8 +43,7 @@ pub fn read_job(alloc: Global, text: &[u8]) -> Result<Job, JobEnd>
 /// The job, where its lines are all there.
 #[tactic(auto, unfolding(crate::specs::Read::lines_from))]
 fn finish(alloc: Global, draft: Draft, number: u32) -> Result<Job, JobEnd>
-    ensures job { IsRead result (lines_from number draft []) }
-    ensures lawful { IfOk result IsJob }
+    ensures { IsRead result (lines_from number draft []) }
 {
     if !draft.phase().is_whole() {
         return Err(JobEnd::Refused(number, Cause::Unfinished));
@@ -56,12 +54,12 @@ fn finish(alloc: Global, draft: Draft, number: u32) -> Result<Job, JobEnd>
     }
 }
 
-/// The end of the job at the line that has this end.
-fn at_line(number: u32, end: LineEnd) -> JobEnd
-    ensures { result ≡ at_line number end }
+/// The end of the job at the line where the reading stops so.
+fn at_line(number: u32, stop: LineStop) -> JobEnd
+    ensures { result ≡ at_line number stop }
 {
-    match end {
-        LineEnd::Refused(cause) => JobEnd::Refused(number, cause),
-        LineEnd::NoMemory => JobEnd::NoMemory,
+    match stop {
+        LineStop::Refused(cause) => JobEnd::Refused(number, cause),
+        LineStop::NoMemory => JobEnd::NoMemory,
     }
 }

@@ -133,7 +133,7 @@ fn a_product_is_read(rt: HostRuntime) -> Result<(), Fail> {
             assert_eq!(rt; letter(&job.names.as_slice()[at as usize]), name);
             assert_eq!(rt; job.tensors.get(at).values(), values.as_slice());
         }
-        assert_eq!(rt; job.stmts.as_slice().len(), 1);
+        assert_eq!(rt; job.parts.as_slice().len(), 1);
         assert_eq!(rt; job.shows.as_slice(), [Show::Print(0)].as_slice());
     }
     Ok(())
@@ -188,7 +188,7 @@ fn statements_and_outputs_may_be_any_number(rt: HostRuntime) -> Result<(), Fail>
         let text = text_with(rt.alloc(), from, to, lines)?;
         assert!(rt; text.len() < 1000);
         let job = read_job(rt.alloc(), text.as_slice())?;
-        assert_eq!(rt; job.stmts.as_slice().len(), stmts);
+        assert_eq!(rt; job.parts.as_slice().len(), stmts);
         assert_eq!(rt; job.shows.len(), shows);
     }
     Ok(())

@@ -1,5 +1,5 @@
 -- The plan of a layout, or the first number that is too great.
-use Rattle.std.specs.Prelude.{ℕ, ◌+◌, ◌*◌, List, map, length, max, nat_lt, sum_by, if◌then◌else◌, Result, Ok, Err}
+use Rattle.std.specs.Prelude.{ℕ, ◌+◌, ◌*◌, List, Bool, map, length, max, nat_lt, sum_by, if◌then◌else◌, Result, Ok, Err}
 use Rattle.dt_base.specs.Ranges.{below}
 use Rattle.dt_nest.specs.Tree.{Tree, Loop, Pre, Leaf}
 use Rattle.dt_place.specs.Machines.{nodes_of}
@@ -27,6 +27,10 @@ visit_count parts = sum_by (λ (p : Part). visits_bound p.sched.nest) parts
 -- the most visits of a plan
 abbrev pub visit_limit : ℕ
 visit_limit = 4194304
+
+-- whether they may have more than the limit
+abbrev pub has_too_many_visits : List Part → Bool
+has_too_many_visits parts = nat_lt visit_limit (visit_count parts)
 
 -- the sum of all nodes' bounds
 abbrev pub bound_sum : Layout → ℕ
@@ -63,7 +67,7 @@ plan_view l = record {
 -- the plan, or the first of four numbers that passes its limit
 unfoldable pub plan_of : Layout → Result PlanView PlanEnd
 plan_of l =
-    if nat_lt visit_limit (visit_count l.parts) then Err ends.TooManyVisits
+    if has_too_many_visits l.parts then Err ends.TooManyVisits
     else if nat_lt 16777216 (bound_sum l) then Err ends.TooManyWords
     else if nat_lt 8192 (length (ops_of l)) then Err ends.TooManyOps
     else if nat_lt 33554432 (unit_count l) then Err ends.TooManyUnits

@@ -11,3 +11,4 @@ pub mod VisitLeaves
 pub mod VisitSteps
 pub mod VisitSums
 pub mod WholeSets
+pub mod Workless

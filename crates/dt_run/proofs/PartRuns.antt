@@ -13,8 +13,8 @@ use Rattle.dt_nest.specs.Outputs.{IsUnread}
 use Rattle.dt_tensor.specs.Packed.{dense_levels}
 use Rattle.dt_tensor.proofs.Tables.{length-table}
 use Rattle.dt_job.specs.PartsOf.{IsPartOf, ArePartsOf}
-use Rattle.dt_job.specs.declared.parts.Part.{Part}
-use Rattle.dt_run.specs.Running.{AreOver}
+use Rattle.dt_plan.specs.declared.parts.Part.{Part}
+use Rattle.dt_run.specs.Running.{AreOver, AreWorkless}
 use Rattle.dt_run.specs.Visiting.{IsRunnable, IsStmtOf}
 use Rattle.dt_run.proofs.OverStored.{fits_over, set_over, stored_extents}
 
@@ -57,16 +57,22 @@ module _ (dims : List ℕ) (stored : List StoredTensor) (names : List (List ℕ)
   part_at (t ∷ stmts) (q ∷ parts) (suc k) s p h l = part_at stmts parts k s p h.1 (omega arith)
 
 -- a part runs on tensors over the stored ones
-part_runs : (dims : List ℕ) (stored : List StoredTensor) (names : List (List ℕ)) (ts : List WholeTensor) (s : Stmt) (p : Part) → IsPartOf dims stored names s p → AreOver stored ts → IsRunnable stored ts p.sched
-part_runs dims stored names ts s p h o = record {
+part_runs : (dims : List ℕ) (stored : List StoredTensor) (names : List (List ℕ)) (ts : List WholeTensor) (s : Stmt) (p : Part) → IsPartOf dims stored names s p → p.sched.works ≡ [] → AreOver stored ts → IsRunnable stored ts p.sched
+part_runs dims stored names ts s p h workless o = record {
   fits = fits_over stored ts p.sched h.fits o;
-  workless = h.works;
+  workless = workless;
   unread = subst (λ (t : ℕ). IsUnread t p.sched.nest) (sym h.output) h.unread;
 }
 
 -- what the schedule means is the part's statement
 part_stmt : (dims : List ℕ) (stored : List StoredTensor) (names : List (List ℕ)) (s : Stmt) (p : Part) → IsPartOf dims stored names s p → IsStmtOf s p.sched p.adds
 part_stmt dims stored names s p h = record { means = h.means; left = sym h.output; same = sym h.adds }
+
+-- each of parts without workspaces has none
+workless_at : (parts : List Part) (k : ℕ) (p : Part) → AreWorkless parts → k < length parts → p ≡ get_or parts k p → p.sched.works ≡ []
+workless_at [] k p h l e = absurd (omega (arith, l))
+workless_at (q ∷ parts) zero p h l e = ap (λ (x : Part). x.sched.works) e ∙ h.0
+workless_at (q ∷ parts) (suc k) p h l e = workless_at parts k p h.1 (omega (arith, l)) e
 
 -- no statement
 pub none : Stmt
@@ -85,11 +91,11 @@ pub record HaveRun (stored : List StoredTensor) (parts : List Part) (k : ℕ) (b
 
 module _ (stored : List StoredTensor) (parts : List Part) (some : (dims : List ℕ) × (names : List (List ℕ)) × (stmts : List Stmt) × ArePartsOf dims stored names stmts parts) (k : ℕ) (p : Part) (l : k < length parts) (e : p ≡ get_or parts k p) where
   -- the next part may run
-  pub next_runs : (ts : List WholeTensor) → AreOver stored ts → IsRunnable stored ts p.sched
-  next_runs ts o = go (some_stmt stored parts k p some l e)
+  pub next_runs : AreWorkless parts → (ts : List WholeTensor) → AreOver stored ts → IsRunnable stored ts p.sched
+  next_runs works ts o = go (some_stmt stored parts k p some l e)
     where
       go : ((dims : List ℕ) × (names : List (List ℕ)) × (s : Stmt) × IsPartOf dims stored names s p) → IsRunnable stored ts p.sched
-      go (dims, names, s, h) = part_runs dims stored names ts s p h o
+      go (dims, names, s, h) = part_runs dims stored names ts s p h (workless_at parts k p works l e) o
 
   -- what it makes of the tensors is over the stored ones
   next_over : (between after : List WholeTensor) → AreOver stored between → ((s : Stmt) → IsStmtOf s p.sched p.adds → after ≡ tensors_after s between) → AreOver stored after

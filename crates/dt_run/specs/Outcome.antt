@@ -10,7 +10,7 @@ use Rattle.dt_job.specs.declared.job.Job.{Job}
 use Rattle.dt_tensor.specs.Packed.{Packed, stored_of, whole_of}
 use Rattle.dt_job.specs.declared.outputs.Show.{Show}
 use Rattle.dt_job.specs.declared.outputs.Show.TheVariants as show
-use Rattle.dt_job.specs.Read.{job_of}
+use Rattle.dt_job.specs.Read.{StatedJob, job_of}
 use Rattle.dt_run.specs.Forms.{form_of}
 use Rattle.dt_run.specs.Limits.{plan_cause_of}
 use Rattle.dt_run.specs.Refusals.{line_end, refused_line_text, refused_plan_text, too_long_text}
@@ -43,12 +43,12 @@ abbrev pub given_of : Job → List WholeTensor
 given_of j = map whole_of j.tensors
 
 -- the tensors of a job after all statements, each as it is stored
-abbrev pub ends_of : Job → List Packed
-ends_of j = map (λ p. packed_with p.0 p.1) (zip (map stored_of j.tensors) (final_of j.stmts (given_of j)))
+abbrev pub ends_of : StatedJob → List Packed
+ends_of s = map (λ p. packed_with p.0 p.1) (zip (map stored_of s.job.tensors) (final_of s.stmts (given_of s.job)))
 
 -- what a run writes: its head, and each output of the tensors after all statements
-abbrev pub run_text : Job → List ℕ
-run_text j = codes "distal run" ++ line_end ++ flat_map (show_text j.names (ends_of j)) j.shows
+abbrev pub run_text : StatedJob → List ℕ
+run_text s = codes "distal run" ++ line_end ++ flat_map (show_text s.job.names (ends_of s)) s.job.shows
 
 -- the most bytes of an input
 abbrev pub input_limit : ℕ
@@ -63,8 +63,8 @@ abbrev pub refused_with : List ℕ → Outcome
 refused_with text = record { status = status.Refused; text = text }
 
 -- what a form writes of a job
-abbrev pub form_text : Form → Job → List ℕ
-form_text form.Run j = run_text j
+abbrev pub form_text : Form → StatedJob → List ℕ
+form_text form.Run s = run_text s
 
 -- a plan that has a cause is refused; else the text is written
 abbrev pub planned : Option PlanCause → List ℕ → Outcome
@@ -72,12 +72,12 @@ planned (Some c) text = refused_with (refused_plan_text c)
 planned None text = record { status = status.Done; text = text }
 
 -- what a form answers to a job
-abbrev pub outcome_of_job : Form → Job → Outcome
-outcome_of_job f j = planned (plan_cause_of j.parts) (form_text f j)
+abbrev pub outcome_of_job : Form → StatedJob → Outcome
+outcome_of_job f s = planned (plan_cause_of s.job.parts) (form_text f s)
 
 -- a line that has a cause is refused
-abbrev pub outcome_of_read : Form → Result Job (ℕ × Cause) → Outcome
-outcome_of_read f (Ok j) = outcome_of_job f j
+abbrev pub outcome_of_read : Form → Result StatedJob (ℕ × Cause) → Outcome
+outcome_of_read f (Ok s) = outcome_of_job f s
 outcome_of_read f (Err e) = refused_with (refused_line_text e.0 e.1)
 
 -- what a form answers to the bytes of a job

@@ -1,11 +1,13 @@
 //! The answer to an input.
 
-ghost use Rattle.std.specs.Prelude.{◌≡◌, ◌++◌, ◌<◌, ◌-◌, ◌^◌, IfOk, OnOk, length, map};
+ghost use Rattle.std.specs.Prelude.{◌≡◌, ◌++◌, ◌<◌, ◌-◌, ◌^◌, IfOk, List, OnOk, length, map};
 ghost use Rattle.std.specs.List.{flat_map};
+ghost use Rattle.dt_model.specs.declared.stmt.Stmt.{Stmt};
 ghost use Rattle.dt_job.specs.Jobs.{IsJob};
 ghost use Rattle.dt_job.specs.Read.{job_of};
 ghost use Rattle.dt_run.specs.Clauses.{outcome_in};
 ghost use Rattle.dt_run.specs.Outcome.{form_text, outcome_of_job, outcome_of_read, print_text, run_text, show_text};
+ghost use Rattle.dt_run.specs.Running.{AreWorkless};
 ghost use Rattle.dt_run.specs.TensorText.{dense_of, tensor_text};
 
 use crate::form::Form;
@@ -39,8 +41,9 @@ pub fn answer_to(alloc: Global, form: Form, input: &[u8]) -> Result<Answer, NoMe
 
 /// The answer to a job: the form's text, unless the job's plan is refused.
 fn answer_to_job(alloc: Global, form: Form, job: Job) -> Result<Answer, NoMemory>
-    requires { IsJob job }
-    ensures { IfOk result (λ a. outcome_in a ≡ outcome_of_job form job) }
+    requires job { (stmts : List Stmt) × IsJob stmts job }
+    requires workless { AreWorkless job.parts }
+    ensures { IfOk result (λ a. (stmts : List Stmt) → IsJob stmts job → outcome_in a ≡ outcome_of_job form (record { job = job; stmts = stmts })) }
 {
     match plan_cause(job.parts.as_slice()) {
         Some(cause) => Ok(Answer::Refusal(refused_plan(&cause))),
@@ -50,8 +53,9 @@ fn answer_to_job(alloc: Global, form: Form, job: Job) -> Result<Answer, NoMemory
 
 /// What the form writes of a job.
 fn text_of(alloc: Global, form: Form, job: Job) -> Result<Bytes, NoMemory>
-    requires { IsJob job }
-    ensures { IfOk result (λ t. t ≡ form_text form job) }
+    requires job { (stmts : List Stmt) × IsJob stmts job }
+    requires workless { AreWorkless job.parts }
+    ensures { IfOk result (λ t. (stmts : List Stmt) → IsJob stmts job → t ≡ form_text form (record { job = job; stmts = stmts })) }
 {
     match form {
         Form::Run => run(alloc, job),
@@ -60,8 +64,9 @@ fn text_of(alloc: Global, form: Form, job: Job) -> Result<Bytes, NoMemory>
 
 /// What a run of the job writes. The tensors' numbers are moved, so that they stand in memory once.
 fn run(alloc: Global, job: Job) -> Result<Bytes, NoMemory>
-    requires { IsJob job }
-    ensures { IfOk result (λ t. t ≡ run_text job) }
+    requires job { (stmts : List Stmt) × IsJob stmts job }
+    requires workless { AreWorkless job.parts }
+    ensures { IfOk result (λ t. (stmts : List Stmt) → IsJob stmts job → t ≡ run_text (record { job = job; stmts = stmts })) }
 {
     let Job {
         names,

@@ -1,6 +1,7 @@
 //! What a node needs of a tensor, and where that comes from.
 
-ghost use Rattle.std.specs.Prelude.{◌≡◌, ◌<◌, IfOk, length};
+ghost use Rattle.std.specs.Prelude.{◌≡◌, ◌<◌, IfOk, List, length};
+ghost use Rattle.dt_model.specs.declared.stmt.Stmt.{Stmt};
 ghost use Rattle.dt_place.specs.Machines.{nodes_of};
 ghost use Rattle.dt_job.specs.Jobs.{IsJob};
 
@@ -21,7 +22,7 @@ pub struct Wanted {
 
 /// The homes of a tensor of the job, one for each node.
 fn homes(alloc: Global, job: &Job, tensor: u32) -> Result<Homes, NoMemory>
-    requires job { IsJob job.now }
+    requires job { (stmts : List Stmt) × IsJob stmts job.now }
     requires tensor { tensor < length job.now.tensors }
     ensures { IfOk result (λ homes. length homes ≡ nodes_of job.now.machine) }
 {
@@ -37,7 +38,7 @@ pub fn copies(
     path: &[u32],
     node: u32,
 ) -> Result<Option<Wanted>, NoMemory>
-    requires { IsJob job.now }
+    requires { (stmts : List Stmt) × IsJob stmts job.now }
 {
     match job.parts.as_slice() {
         [] => Ok(None),

@@ -5,9 +5,9 @@ use Rattle.dt_job.specs.Read.{job_of}
 use Rattle.dt_job.proofs.ReadLaws.{line_goes_on, line_stops, refuses}
 use Rattle.dt_job.proofs.reading.read_job.Goals as goal
 
-pub returns-in-Err-clause-job : goal.returns-in-Err-clause-job
-returns-in-Err-clause-job c =
-    rw c.at_line.ensures (refuses c.loop-draft.number c.in-Err.end (bytes_line c.loop-draft.draft (slice_range c.args.text.now c.in-Some.line.from c.in-Some.line.to)) (job_of c.args.text.now) c.in-Err.ensures
+pub returns-in-Err : goal.returns-in-Err
+returns-in-Err c =
+    rw c.at_line.ensures (refuses c.loop-draft.number c.in-Err.stop (bytes_line c.loop-draft.draft (slice_range c.args.text.now c.in-Some.line.from c.in-Some.line.to)) (job_of c.args.text.now) c.in-Err.ensures
     (λ x h. sym c.loop-draft.invariant.same ∙ line_stops c.args.text.now c.loop-draft.number c.loop-draft.draft c.loop-draft.at c.in-Some.line.from c.in-Some.line.to x c.in-Some.ensures.lines h))
 
 pub loop-draft-preserved : goal.loop-draft-preserved

@@ -7,7 +7,6 @@ abbrev pub invariant-loop-scheduled : goal.invariant-loop-scheduled
 invariant-loop-scheduled l = record {
   seen : l.yielded ++ into_iter_items l.scheduled-iterator ≡ l.fn.closed.items;
   left : into_iter_len l.scheduled-iterator ≡ length (into_iter_items l.scheduled-iterator);
-  stmts : l.stmts ≡ map (λ s. s.stmt) l.yielded;
   heads : l.heads ≡ map (λ s. s.head) l.yielded;
   parts : l.parts ≡ map part_of l.yielded;
 }

@@ -7,7 +7,7 @@ loop-part-init g c = record { over = c.requires.over; done = λ dims names stmts
 
 pub run_part-requires : goal.run_part-requires
 run_part-requires g c =
-    next_runs (g.L.Locator.tensors c.args.loc.now) c.args.parts.now c.requires.parts c.loop-part.part-index c.part-item.result c.loop-part-test.true c.part-item.is c.loop-part.tensors.items c.loop-part.invariant.over
+    next_runs (g.L.Locator.tensors c.args.loc.now) c.args.parts.now c.requires.parts c.loop-part.part-index c.part-item.result c.loop-part-test.true c.part-item.is c.requires.workless c.loop-part.tensors.items c.loop-part.invariant.over
 
 pub loop-part-preserved : goal.loop-part-preserved
 loop-part-preserved g c =

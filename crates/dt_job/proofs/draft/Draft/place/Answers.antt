@@ -1,14 +1,14 @@
-use Rattle.std.proofs.Common.{◌∙◌, ap}
-use Rattle.dt_index.specs.Known.{place_of}
-use Rattle.dt_job.specs.Contents.{known_of}
-use Rattle.dt_job.specs.Drafts.{DraftView}
-use Rattle.dt_job.proofs.ContentFacts.{place_known}
+use Rattle.std.proofs.Common.{ap, ◌∙◌, sym, subst}
+use Rattle.dt_job.specs.Contents.{Contents}
+use Rattle.dt_job.specs.contracts.draft.Draft.{the_view}
+use Rattle.dt_job.specs.Drafts.{DraftView, FitsMachine, IsDraft}
+use Rattle.dt_job.specs.Phases.{takes_declaration}
+use Rattle.dt_job.proofs.ContentFacts.{placed_draft}
 use Rattle.dt_job.proofs.draft.Draft.place.Goals as goal
 
-pub returns-in-None-clause-place : goal.returns-in-None-clause-place
-returns-in-None-clause-place c =
-    c.in-None.ensures.index ∙ place_known c.args.name.now c.self.inside.tensors.entries ∙ ap (λ (d : DraftView). place_of c.args.name.now (known_of d.tensors)) c.self.view_is
-
-pub returns-in-Some-clause-place : goal.returns-in-Some-clause-place
-returns-in-Some-clause-place c =
-    c.in-Some.ensures.index ∙ place_known c.args.name.now c.self.inside.tensors.entries ∙ ap (λ (d : DraftView). place_of c.args.name.now (known_of d.tensors)) c.self.view_is
+pub invariant_of-self : goal.invariant_of-self
+invariant_of-self c =
+    let P : Contents → Type 0 = λ ts. IsDraft (record (the_view c.self.inside) { tensors = ts }) in
+    let F : DraftView → Type 0 = λ d. FitsMachine d.machine c.args.placement in
+    subst P (sym c.place.ensures)
+    (placed_draft (the_view c.self.inside) c.args.at c.args.placement (ap (λ (d : DraftView). takes_declaration d.phase) c.self.view_is ∙ c.requires.early) (subst F (sym c.self.view_is) c.requires.lawful) c.self.invariant)

@@ -1,0 +1,16 @@
+use Rattle.std.proofs.Common.{length, ap, ◌∙◌, arith}
+use Rattle.dt_job.specs.Contents.{Contents, with_placement}
+use Rattle.dt_job.proofs.ContentFacts.{content_at, count_kept, placed_tensors, named_kept}
+use Rattle.dt_job.proofs.declarations.Declarations.place.Goals as goal
+
+pub invariant_of-self : goal.invariant_of-self
+invariant_of-self c = (
+  named_kept c.self.inside.tensors.entries c.args.at c.place.new.self c.self.inside.names c.self.invariant.0,
+  omega (arith, count_kept c.self.inside.tensors.entries c.args.at c.place.new.self, c.self.invariant.1),
+)
+
+pub returns : goal.returns
+returns c =
+    placed_tensors c.self.inside.tensors.entries c.args.at c.index_mut.result.now c.place.new.self c.args.placement
+    (content_at c.self.inside.tensors.entries c.args.at c.index_mut.result.now c.index_mut.ensures.value) c.place.ensures
+    ∙ ap (λ (d : Contents). with_placement d c.args.at c.args.placement) c.self.view_is

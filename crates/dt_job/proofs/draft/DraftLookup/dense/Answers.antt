@@ -1,5 +1,0 @@
-use Rattle.dt_job.proofs.ContentFacts.{all_dense}
-use Rattle.dt_job.proofs.draft.DraftLookup.dense.Goals as goal
-
-pub returns : goal.returns
-returns c = all_dense c.args.self.now.tensors c.args._tensor

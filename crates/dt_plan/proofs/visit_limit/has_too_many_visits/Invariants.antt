@@ -1,0 +1,6 @@
+use Rattle.std.proofs.Common.{◌≡◌, ◌+◌, min, take}
+use Rattle.dt_plan.specs.Limits.{visit_count, visit_limit}
+use Rattle.dt_plan.proofs.visit_limit.has_too_many_visits.Given as goal
+
+abbrev pub invariant-loop-part : goal.invariant-loop-part
+invariant-loop-part l = l.count ≡ min (visit_count (take l.part-index l.parts)) (visit_limit + 1)

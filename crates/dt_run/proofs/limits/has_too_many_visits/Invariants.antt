@@ -1,7 +1,0 @@
-use Rattle.std.proofs.Common.{◌≡◌, ◌+◌, min, take}
-use Rattle.dt_plan.specs.Limits.{visit_limit}
-use Rattle.dt_run.specs.Limits.{visit_count}
-use Rattle.dt_run.proofs.limits.has_too_many_visits.Given as goal
-
-abbrev pub invariant-loop-part : goal.invariant-loop-part
-invariant-loop-part l = l.count ≡ min (visit_count (take l.part-index l.parts)) (visit_limit + 1)
