@@ -9,7 +9,7 @@ use Rattle.dt_model.specs.declared.cause.LineEnd.{LineEnd}
 use Rattle.dt_model.specs.declared.cause.LineEnd.TheVariants as ends
 use Rattle.dt_model.specs.Steps.{◌>>=◌, Fails}
 use Rattle.dt_model.proofs.Fronts.{with_front, with_front-end}
-use Rattle.dt_schedule.specs.CommandForms.{each}
+use Rattle.dt_schedule.specs.NamesOf.{each}
 
 -- the words from the i-th on
 abbrev pub words_from : List ℕ → List Token → ℕ → List (List ℕ)

@@ -2,7 +2,8 @@
 use Rattle.std.proofs.Common.{◌≡◌, ℕ, ◌<◌, List, [], ◌∷◌, length, Err, refl, arith}
 use Rattle.dt_model.specs.declared.cause.Cause.TheVariants as cause
 use Rattle.dt_nest.specs.Schedule.{Schedule}
-use Rattle.dt_schedule.specs.CommandForms.{collapse_of, two_loops_of}
+use Rattle.dt_schedule.specs.Collapses.{collapse_of}
+use Rattle.dt_schedule.specs.TwoLoops.{two_loops_of}
 
 pub two_loops_short : (s : Schedule) (words : List (List ℕ)) → length words < 4 → two_loops_of s words ≡ Err cause.Syntax
 unfolding two_loops_of

@@ -3,16 +3,29 @@ use Rattle.std.proofs.Common.{◌≡◌, ℕ, Bool, true, false, List, [], ◌�
 use Rattle.std.specs.Str.{bytes_eq}
 use Rattle.dt_model.specs.declared.cause.Cause.{Cause}
 use Rattle.dt_model.specs.Positions.{StoredTensor}
-use Rattle.dt_model.specs.Steps.{◌>>=◌, none}
+use Rattle.dt_model.specs.Steps.{◌>>=◌, found, none}
 use Rattle.dt_nest.specs.declared.commands.RewriteEnd.{RewriteEnd}
 use Rattle.dt_nest.specs.Schedule.{Schedule}
 use Rattle.dt_nest.specs.Lawful.{IsLawful}
 use Rattle.dt_nest.specs.FitsStored.{FitsStored}
 use Rattle.dt_nest.specs.Grid.{IsOnGrid}
 use Rattle.dt_nest.specs.Commands.{Answers, KeepsSum, KeepsAccesses}
+use Rattle.dt_model.specs.declared.cause.Cause.TheVariants as cause
+use Rattle.dt_schedule.specs.declared.command_words.CommandWord.{CommandWord}
+use Rattle.dt_schedule.specs.declared.command_words.CommandWord.TheVariants as kind
+use Rattle.dt_schedule.specs.CommandWords.{word_of}
 use Rattle.dt_schedule.specs.declared.commands.Command.{Command}
 use Rattle.dt_schedule.specs.declared.commands.Command.TheVariants as command
-use Rattle.dt_schedule.specs.CommandForms.{two_loops_of, split_of, divide_of, names_of, loops_of, tensors_of, loop_of, reorder_of, collapse_of, rotate_names, rotate_of, distribute_of, communicate_names, communicate_of, layout_of, command_of}
+use Rattle.dt_schedule.specs.Collapses.{collapse_of}
+use Rattle.dt_schedule.specs.CommandForms.{command_of, form_of}
+use Rattle.dt_schedule.specs.Communicates.{communicate_names, communicate_of}
+use Rattle.dt_schedule.specs.Distributes.{distribute_of}
+use Rattle.dt_schedule.specs.Divides.{divide_of}
+use Rattle.dt_schedule.specs.NamesOf.{names_of, loops_of, tensors_of, loop_of}
+use Rattle.dt_schedule.specs.Reorders.{reorder_of}
+use Rattle.dt_schedule.specs.Rotates.{rotate_names, rotate_of}
+use Rattle.dt_schedule.specs.Splits.{split_of}
+use Rattle.dt_schedule.specs.TwoLoops.{two_loops_of}
 use Rattle.dt_schedule.specs.Commands.{AnswersLine, LineKeeps, command_line, rule_of}
 use Rattle.dt_schedule.specs.CommandLaws.{command_keeps}
 
@@ -26,11 +39,6 @@ IsFor s grid c = (rule_of c).serves grid × ((stored : List StoredTensor) → (r
 after : {A : Type 0} (P : Command → Type 0) (r : Result A Cause) (k : A → Result Command Cause) → ((x : A) → IfOk (k x) P) → IfOk (r >>= k) P
 after P (Ok x) k h = h x
 after P (Err e) k h = tt
-
--- what holds of both holds of either
-either : (P : Command → Type 0) (b : Bool) (x y : Result Command Cause) → IfOk x P → IfOk y P → IfOk (if b then x else y) P
-either P true x y p q = p
-either P false x y p q = q
 
 module _ (s : Schedule) (grid : List ℕ) where
   split_for : (words : List (List ℕ)) → IfOk (split_of s words) (IsFor s grid)
@@ -73,18 +81,21 @@ module _ (s : Schedule) (grid : List ℕ) where
       named [] = tt
       named (v ∷ names) = after (IsFor s grid) _ _ (λ u. after (IsFor s grid) (loop_of s v) _ (λ var. after (IsFor s grid) (tensors_of s names) _ (λ tensors. (tt, λ stored. tt))))
 
+  form_for : (k : CommandWord) (words : List (List ℕ)) → IfOk (form_of s grid k words) (IsFor s grid)
+  unfolding form_of
+  form_for kind.Split words = split_for words
+  form_for kind.Divide words = divide_for words
+  form_for kind.Reorder words = reorder_for words
+  form_for kind.Collapse words = collapse_for words
+  form_for kind.Rotate words = rotate_for words
+  form_for kind.Distribute words = distribute_for words
+  form_for kind.Communicate words = communicate_for words
+
   -- the command of a line is for the machine whose dimensions it gets
   pub command_for : (words : List (List ℕ)) → IfOk (command_of s grid words) (IsFor s grid)
-  unfolding command_of layout_of
+  unfolding command_of
   command_for [] = tt
-  command_for (word ∷ words) =
-      either (IsFor s grid) (bytes_eq word (codes "split")) _ _ (split_for words)
-      (either (IsFor s grid) (bytes_eq word (codes "divide")) _ _ (divide_for words)
-      (either (IsFor s grid) (bytes_eq word (codes "reorder")) _ _ (reorder_for words)
-      (either (IsFor s grid) (bytes_eq word (codes "collapse")) _ _ (collapse_for words)
-      (either (IsFor s grid) (bytes_eq word (codes "rotate")) _ _ (rotate_for words)
-      (either (IsFor s grid) (bytes_eq word (codes "distribute")) _ _ (distribute_for words)
-      (either (IsFor s grid) (bytes_eq word (codes "communicate")) _ _ (communicate_for words) tt))))))
+  command_for (word ∷ words) = after (IsFor s grid) (found (word_of word) cause.UnknownWord) _ (λ k. form_for k words)
 
 -- What a line keeps -------------------------------------------------------------------------------------------------------
 

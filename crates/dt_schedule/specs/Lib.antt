@@ -1,3 +1,13 @@
-pub mod Commands
+pub mod Collapses
 pub mod CommandForms
 pub mod CommandLaws
+pub mod CommandWords
+pub mod Commands
+pub mod Communicates
+pub mod Distributes
+pub mod Divides
+pub mod NamesOf
+pub mod Reorders
+pub mod Rotates
+pub mod Splits
+pub mod TwoLoops

@@ -6,7 +6,7 @@ ghost use Rattle.std.specs.Str.{bytes_eq};
 ghost use Rattle.dt_text.specs.Spans.{IsToken, token_in};
 ghost use Rattle.dt_model.specs.Steps.{Gives};
 ghost use Rattle.dt_nest.specs.Schedule.{seen};
-ghost use Rattle.dt_schedule.specs.CommandForms.{loop_of, loops_of, name_in, names_of};
+ghost use Rattle.dt_schedule.specs.NamesOf.{loop_of, loops_of, name_in, names_of};
 
 use dt_base::{Name, Names, Vars};
 use dt_model::{Cause, LineEnd};
@@ -14,28 +14,21 @@ use dt_nest::{Sched, SchedParts, has_loop};
 use dt_text::{Token, is_name, word};
 use std::alloc::Global;
 
-/// Where a name stands among names.
-pub fn place(names: &[Name], name: &[u8]) -> Option<usize>
-    ensures value { result ≡ position (λ n. bytes_eq n name.now) names.now }
-    ensures within { IfSome result (λ k. k < length names.now) }
-{
-    names.iter().position(|n| n.is(name))
-}
-
 /// The number of the loop with this name: UnknownLoop where it is no loop of the nest now.
-#[tactic(auto, unfolding(crate::specs::CommandForms::loop_of))]
+#[tactic(auto, unfolding(crate::specs::NamesOf::loop_of))]
 fn loop_in(parts: &SchedParts, name: &[u8]) -> Result<u32, LineEnd>
     requires short { length name.now ≤ 64 }
     requires few { length (seen parts.now).names < 2 ^ 32 }
     ensures read { Gives (λ v. v) result (loop_of (seen parts.now) name.now) }
     ensures known { IfOk result (λ v. v < length (seen parts.now).names) }
 {
-    match place(parts.names.as_slice(), name) {
-        None => Err(LineEnd::Refused(Cause::UnknownLoop(Name::from_slice(name)))),
+    let name = Name::from_slice(name);
+    match parts.names.number_of(&name) {
+        None => Err(LineEnd::Refused(Cause::UnknownLoop(name))),
         Some(at) => {
             let v = at as u32;
             if !has_loop(&parts.nest, v) {
-                return Err(LineEnd::Refused(Cause::UnknownLoop(Name::from_slice(name))));
+                return Err(LineEnd::Refused(Cause::UnknownLoop(name)));
             }
             Ok(v)
         }
@@ -67,7 +60,7 @@ pub fn loops_named(alloc: Global, sched: &Sched, names: &[Name]) -> Result<Vars,
 }
 
 /// A word that is a name.
-#[tactic(auto, unfolding(crate::specs::CommandForms::name_in))]
+#[tactic(auto, unfolding(crate::specs::NamesOf::name_in))]
 fn read_name(word: &[u8]) -> Result<Name, LineEnd>
     ensures { Gives (λ name. name) result (name_in word.now) }
 {

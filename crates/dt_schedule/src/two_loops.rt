@@ -6,7 +6,7 @@ ghost use Rattle.dt_text.specs.Names.{is_name};
 ghost use Rattle.dt_text.specs.Numbers.{is_numeral};
 ghost use Rattle.dt_text.specs.Spans.{IsToken, token_in};
 ghost use Rattle.dt_model.specs.Steps.{Gives};
-ghost use Rattle.dt_schedule.specs.CommandForms.{number_32, two_loops_of};
+ghost use Rattle.dt_schedule.specs.TwoLoops.{number_32, two_loops_of};
 
 use crate::loop_names::loop_named;
 use dt_base::Name;
@@ -38,7 +38,7 @@ fn number_32(n: u64) -> u32
 }
 
 /// The loop, the names and the number behind the words `split` and `divide`.
-#[tactic(auto, unfolding(crate::specs::CommandForms::two_loops_of))]
+#[tactic(auto, unfolding(crate::specs::TwoLoops::two_loops_of))]
 pub fn read_two_loops(text: &[u8], tokens: &[Token], sched: &Sched) -> Result<TwoLoops, LineEnd>
     requires { All (IsToken (length text.now)) tokens.now }
     ensures read { Gives (λ t. t) result (two_loops_of sched.now (map (token_in text.now) tokens.now)) }

@@ -1,6 +1,6 @@
 use Rattle.std.proofs.Common.{◌+◌, drop, arith}
 use Rattle.std.proofs.lemmas.List.{drop_all}
-use Rattle.dt_schedule.specs.CommandForms.{loop_of, loops_of}
+use Rattle.dt_schedule.specs.NamesOf.{loop_of, loops_of}
 use Rattle.dt_schedule.proofs.EachFacts.{drop-next, each_end, each_fails}
 use Rattle.dt_schedule.proofs.loop_names.loops_named.Goals as goal
 

@@ -1,7 +1,7 @@
 use Rattle.std.proofs.Common.{◌≡◌, map}
 use Rattle.dt_model.proofs.Fronts.{with_front}
 use Rattle.dt_text.specs.Spans.{token_in}
-use Rattle.dt_schedule.specs.CommandForms.{each, name_in}
+use Rattle.dt_schedule.specs.NamesOf.{each, name_in}
 use Rattle.dt_schedule.proofs.EachFacts.{words_from}
 use Rattle.dt_schedule.proofs.loop_names.read_names.Given as goal
 

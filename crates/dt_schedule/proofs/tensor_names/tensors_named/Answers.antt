@@ -1,6 +1,6 @@
 use Rattle.std.proofs.Common.{◌+◌, drop, arith}
 use Rattle.std.proofs.lemmas.List.{drop_all}
-use Rattle.dt_schedule.specs.CommandForms.{tensor_of, tensors_of}
+use Rattle.dt_schedule.specs.NamesOf.{tensor_of, tensors_of}
 use Rattle.dt_schedule.proofs.EachFacts.{drop-next, each_end, each_fails}
 use Rattle.dt_schedule.proofs.tensor_names.tensors_named.Goals as goal
 

@@ -1,7 +1,7 @@
 use Rattle.std.proofs.Common.{◌≡◌, ◌+◌, ◌<◌, length, drop}
 use Rattle.std.specs.List.{AllByRecursion}
 use Rattle.dt_model.proofs.Fronts.{with_front}
-use Rattle.dt_schedule.specs.CommandForms.{each, tensor_of}
+use Rattle.dt_schedule.specs.NamesOf.{each, tensor_of}
 use Rattle.dt_schedule.proofs.tensor_names.tensors_named.Given as goal
 
 abbrev pub invariant-loop-name : goal.invariant-loop-name
