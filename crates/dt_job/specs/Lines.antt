@@ -19,7 +19,8 @@ use Rattle.dt_job.specs.FillLine.{fill_line}
 use Rattle.dt_job.specs.MachineLine.{machine_line}
 use Rattle.dt_job.specs.PlaceLine.{place_line}
 use Rattle.dt_job.specs.PrintLine.{print_line}
-use Rattle.dt_job.specs.ScheduleLine.{is_command, schedule_line}
+use Rattle.dt_schedule.specs.CommandWords.{is_command}
+use Rattle.dt_job.specs.ScheduleLine.{schedule_line}
 use Rattle.dt_job.specs.StmtLine.{stmt_line}
 use Rattle.dt_job.specs.TensorLine.{tensor_line}
 

@@ -1,7 +1,5 @@
 -- A line with a command.
-use Rattle.std.specs.Prelude.{ℕ, List, [], ◌∷◌, codes, Bool, option_map, Result, Ok}
-use Rattle.std.specs.List.{list_any}
-use Rattle.std.specs.Str.{bytes_eq}
+use Rattle.std.specs.Prelude.{ℕ, List, option_map, Result, Ok}
 use Rattle.dt_text.specs.Tokens.{tokens_of}
 use Rattle.dt_model.specs.declared.cause.Cause.{Cause}
 use Rattle.dt_model.specs.declared.cause.Cause.TheVariants as cause
@@ -11,10 +9,6 @@ use Rattle.dt_schedule.specs.Commands.{command_line}
 use Rattle.dt_job.specs.declared.phases.Phase.TheVariants as phase
 use Rattle.dt_job.specs.Drafts.{DraftView}
 use Rattle.dt_job.specs.Phases.{open_stmt}
-
--- the first words of commands
-abbrev pub is_command : List ℕ → Bool
-is_command word = list_any (bytes_eq word) (codes "split" ∷ codes "divide" ∷ codes "reorder" ∷ codes "collapse" ∷ codes "rotate" ∷ codes "distribute" ∷ codes "communicate" ∷ [])
 
 -- a command line: the open statement gets another schedule
 unfoldable pub schedule_line : DraftView → List ℕ → Result DraftView Cause

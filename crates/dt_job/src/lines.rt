@@ -4,7 +4,6 @@ ghost use Rattle.std.specs.Prelude.{◌≡◌, ◌≤◌, ◌<◌, ◌^◌, ◌-
 ghost use Rattle.dt_text.specs.Spans.{IsToken, token_in};
 ghost use Rattle.dt_job.specs.Stops.{Says};
 ghost use Rattle.dt_job.specs.Lines.{bytes_line, line_stop_of, words_line};
-ghost use Rattle.dt_job.specs.ScheduleLine.{is_command};
 
 use crate::data_line::read_data;
 use crate::distal_line::read_distal;
@@ -18,21 +17,9 @@ use crate::print_line::read_print;
 use crate::stmt_line::read_stmt;
 use crate::tensor_line::read_tensor;
 use dt_model::Cause;
+use dt_schedule::is_command;
 use dt_text::{Line, TextEnd, Token, after_word, tokens, word};
 use std::alloc::Global;
-
-/// Whether a word begins a command.
-fn is_command(word: &[u8]) -> bool
-    ensures { result ≡ is_command word.now }
-{
-    word == b"split".as_slice()
-        || word == b"divide".as_slice()
-        || word == b"reorder".as_slice()
-        || word == b"collapse".as_slice()
-        || word == b"rotate".as_slice()
-        || word == b"distribute".as_slice()
-        || word == b"communicate".as_slice()
-}
 
 /// A line by its first word; `plain` is the line's bytes.
 #[tactic(auto, unfolding(crate::specs::Lines::words_line))]

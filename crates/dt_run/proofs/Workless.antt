@@ -21,7 +21,8 @@ use Rattle.dt_job.specs.Lines.{bytes_line, words_line, words_of}
 use Rattle.dt_job.specs.MachineLine.{machine_line}
 use Rattle.dt_job.specs.PlaceLine.{place_line}
 use Rattle.dt_job.specs.PrintLine.{print_line}
-use Rattle.dt_job.specs.ScheduleLine.{is_command, schedule_line}
+use Rattle.dt_schedule.specs.CommandWords.{is_command}
+use Rattle.dt_job.specs.ScheduleLine.{schedule_line}
 use Rattle.dt_job.specs.Scheduled.{ScheduledView}
 use Rattle.dt_job.specs.StmtLine.{stmt_line}
 use Rattle.dt_job.specs.TensorLine.{declared_in, tensor_line}
