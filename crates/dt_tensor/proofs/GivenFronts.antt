@@ -1,12 +1,12 @@
 -- The numbers of the entries' fronts, and where they stand.
-use Rattle.std.proofs.Common.{◌≡◌, ℕ, zero, suc, ◌+◌, ◌-◌, ◌*◌, ◌/◌, ◌<◌, ◌≤◌, ◌==◌, ◌^◌, List, [], ◌∷◌, ◌++◌, append-nil, length, get_or, take, drop, map, refl, ap, ap₂, sym, ◌∙◌, subst, arith, Option, Some, None, IsSome, option_map, is_some, Bool, true, false, cond, ◌||◌, ◌&&◌, Contains, position, filter_map, inl, inr, nat_lt, nat_le}
+use Rattle.std.proofs.Common.{◌≡◌, ℕ, zero, suc, ◌+◌, ◌-◌, ◌*◌, ◌/◌, ◌<◌, ◌≤◌, ◌==◌, ◌^◌, List, [], ◌∷◌, ◌++◌, append-nil, length, get_or, take, drop, map, refl, ap, ap₂, sym, ◌∙◌, subst, arith, Option, Some, None, IsSome, option_map, is_some, Bool, true, false, cond, ◌||◌, ◌&&◌, Contains, position, filter_map, option_to_list, inl, inr, nat_lt, nat_le}
 use Rattle.std.specs.List.{All, AllByRecursion, list_all, list_any, position_or_len}
 use Rattle.std.specs.List.Sorted.{IsStrictlyIncreasing}
 use Rattle.std.specs.Str.{bytes_eq}
 use Rattle.std.proofs.Math.Nat.{div-one}
 use Rattle.std.proofs.lemmas.Bool.{cases_lt, eqb-true, and_from, lt-ltb, le-leb}
 use Rattle.std.proofs.lemmas.Bool.Decides.{eqb_tells}
-use Rattle.std.proofs.lemmas.List.{take_more, length-map, get_or-map}
+use Rattle.std.proofs.lemmas.List.{take_more, take_all, drop_all, length-map, get_or-map}
 use Rattle.std.proofs.lemmas.List.Elements.{filter_map-append, All-get_or, All-from_recursion}
 use Rattle.std.proofs.lemmas.List.Folds.{Any-from_list_any, list_any_at}
 use Rattle.std.proofs.lemmas.Nat.{div_below}
@@ -148,3 +148,18 @@ near_at xs x k up h item = found_at xs x k h (λ i lt. subst (λ (m : ℕ). get_
 pub fronts_none : (ns : List ℕ) (size : ℕ) (entries : List Given) → [] ≡ fronts_given ns size (take 0 entries)
 fronts_none ns size [] = refl
 fronts_none ns size (e ∷ es) = refl
+
+-- the numbers of entries are below the product of the extents
+pub numbers_within : (ns : List ℕ) (entries : List Given) (ps : List ℕ) → ((f : ℕ) → contains ps f ≡ contains (fronts_given ns 1 entries) f) → All (λ p. p < product ns) ps
+numbers_within ns entries ps same =
+    subst (λ (ms : List ℕ). All (λ p. p < product ms) ps) (take_all (length ns) ns (omega arith))
+    (fronts_within ns (length ns) entries ps (subst (λ (s : ℕ). 0 < s) (sym one) (omega arith)) (λ f. same f ∙ ap (λ (s : ℕ). contains (fronts_given ns s entries) f) (sym one)))
+  where
+    one : product (drop (length ns) ns) ≡ 1
+    one = ap product (drop_all (length ns) ns (omega arith))
+
+-- one more entry, by the number that its index has
+pub fronts_push : (ns : List ℕ) (size : ℕ) (entries : List Given) (i : ℕ) (e : Given) (r : Option ℕ) → i < length entries → e ≡ get_or entries i e → row_major ns e.at ≡ r
+    → fronts_given ns size (take (i + 1) entries) ≡ fronts_given ns size (take i entries) ++ option_to_list (option_map (λ n. n / size) r)
+fronts_push ns size entries i e None h item q = fronts_kept ns size entries i e h item q ∙ sym (append-nil (fronts_given ns size (take i entries)))
+fronts_push ns size entries i e (Some n) h item q = fronts_more ns size entries i n e h item q

@@ -15,3 +15,4 @@ pub mod StoredTables
 pub mod GivenFronts
 pub mod StoredEntries
 pub mod PackFacts
+pub mod OneParent

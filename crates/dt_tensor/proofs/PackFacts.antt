@@ -1,8 +1,10 @@
 -- What entries give, whatever the levels.
-use Rattle.std.proofs.Common.{◌≡◌, ℕ, zero, suc, ◌*◌, ◌<◌, ◌≤◌, List, [], ◌∷◌, length, get_or, take, drop, map, replicate, refl, ap, ap₂, sym, ◌∙◌, subst, arith, Option, Some, None, IsSome, Result, Ok, Err, Bool, true, false, cond, not, ◌||◌, ◌+◌, is_some, option_map, unwrap_or, slice_index, nat_lt, if◌then◌else◌}
+use Rattle.std.proofs.Common.{◌≡◌, ◌/◌, inl, inr, ℕ, zero, suc, ◌*◌, ◌<◌, ◌≤◌, List, [], ◌∷◌, length, get_or, take, drop, map, replicate, refl, ap, ap₂, sym, ◌∙◌, subst, arith, Option, Some, None, IsSome, Result, Ok, Err, Bool, true, false, cond, not, ◌||◌, ◌+◌, is_some, option_map, unwrap_or, slice_index, nat_lt, if◌then◌else◌}
 use Rattle.std.specs.List.{All, AllByRecursion, filter, find, list_any, position, position_or_len}
 use Rattle.std.specs.List.Sorted.{IsStrictlyIncreasing}
-use Rattle.std.proofs.lemmas.Bool.{lt-ltb, le-ltb}
+use Rattle.std.proofs.lemmas.Bool.{cases_lt, lt-ltb, le-ltb}
+use Rattle.std.proofs.lemmas.Nat.{div-mul-add, div-add-mod', mod_below, mul-le}
+use Rattle.dt_tensor.proofs.IndexNumbers.{product_cut}
 use Rattle.std.proofs.lemmas.List.{length-map, get_or-map, same_lists}
 use Rattle.std.proofs.lemmas.List.Elements.{recursion_from_All}
 use Rattle.std.proofs.lemmas.Bool.Decides.{nat_tests}
@@ -15,7 +17,7 @@ use Rattle.dt_model.specs.Positions.{StoredTensor, IsStored, begins, is_followed
 use Rattle.dt_model.specs.WholeTensor.{WholeTensor}
 use Rattle.dt_model.specs.Shape.{shape_of_extents}
 use Rattle.dt_runs.specs.Sets.{contains}
-use Rattle.dt_tensor.specs.Packed.{Packed, depth_of, index_at, numbers_behind, levels_with, dense_levels, packed_with, number_in, whole_of}
+use Rattle.dt_tensor.specs.Packed.{Packed, IsCut, depth_of, index_at, numbers_behind, levels_with, dense_levels, packed_with, number_in, whole_of}
 use Rattle.dt_tensor.specs.Packing.{given_at, given_whole, first_offence, fronts_given, levels_asked, packed_by, packed_or, pack_of}
 use Rattle.dt_tensor.specs.declared.entry.Given.{Given}
 use Rattle.dt_tensor.specs.declared.packing.PackEnd.{PackEnd}
@@ -176,3 +178,42 @@ whole_given ns comp entries t values is same =
             some_place (λ d. bytes_eq d c) cs
             (any_filter (is_followed comp (map (λ e. e.at) entries)) (λ d. bytes_eq d c) (assignments ns) k h (ap (is_followed comp (map (λ e. e.at) entries)) at ∙ followed_itself comp entries c given)
             (ap (λ (d : List ℕ). bytes_eq d c) at ∙ bytes_eq-same c)) missing)
+
+-- how many indices are behind a front
+pub cut_quotient : (ns : List ℕ) (d : ℕ) → 0 < product (take d ns) → product ns / product (take d ns) ≡ product (drop d ns)
+cut_quotient ns d pos =
+    ap (λ (n : ℕ). n / product (take d ns)) (product_cut ns d ∙ turned (product (take d ns)) (product (drop d ns))) ∙ div-mul-add (product (drop d ns)) (product (take d ns)) 0 pos
+  where
+    turned : (a b : ℕ) → a * b ≡ b * a + 0
+    turned a b = omega arith
+
+-- a count passes a quotient where its product passes the number
+pub over_is : (m k s : ℕ) → 0 < s → nat_lt (m / s) k ≡ nat_lt m (k * s)
+over_is m k s pos = elim (cases_lt (m / s) k) [
+  | inl lt ↦ lt-ltb (m / s) k lt ∙ sym (lt-ltb m (k * s) (above lt))
+  | inr le ↦ le-ltb (m / s) k le ∙ sym (le-ltb m (k * s) (under le))
+]
+  where
+    above : m / s < k → m < k * s
+    above lt =
+        let a : (m / s + 1) * s ≤ k * s = mul-le (m / s + 1) s k s (omega arith) (omega arith) in
+        let b : (m / s + 1) * s ≡ m / s * s + s = omega arith in
+        omega (arith, div-add-mod' m s, mod_below m s pos)
+
+    under : k ≤ m / s → k * s ≤ m
+    under le =
+        let a : k * s ≤ m / s * s = mul-le k s (m / s) s le (omega arith) in
+        omega (arith, div-add-mod' m s)
+
+-- the parts of the levels with these fronts
+pub cut_of : (ns : List ℕ) (comp : List Bool) (d s : ℕ) (fs : List ℕ) (level : List (List ℕ)) (entries : List Given) → AskedFacts ns comp fs entries → d ≡ depth_of comp → s ≡ product (drop d ns)
+    → IsStrictlyIncreasing fs → length fs * s ≤ 1048576 → level ≡ fs ∷ [] → IsCut ns comp d s level
+cut_of ns comp d s fs level entries facts depth size up few is = subst (λ (l : List (List ℕ)). IsCut ns comp d s l) (sym is) (record {
+  depth = depth;
+  size = size;
+  root = refl;
+  ascending = up;
+  within = subst (λ (k : ℕ). All (λ f. f < product (take k ns)) fs) (sym depth) facts.within;
+  stored = facts.stored;
+  few = subst (λ (n : ℕ). n ≤ 1048576) (sym (facts.count ∙ ap (λ (k : ℕ). length fs * product (drop k ns)) (sym depth) ∙ ap (λ (k : ℕ). length fs * k) (sym size))) few;
+})

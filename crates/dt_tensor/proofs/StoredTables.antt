@@ -66,3 +66,7 @@ stored-kept {A} f g cs c one e other =
 pub stored-same : {A : Type 0} (f : List ℕ → A) (cs : List (List ℕ)) (v : A) → ((c : List ℕ) → f c ≡ v) → replicate (length cs) v ≡ map f cs
 stored-same f [] v h = refl
 stored-same f (c ∷ cs) v h = ap₂ (λ x xs. x ∷ xs) (sym (h c)) (stored-same f cs v h)
+
+-- a place of some coordinates is one of the table
+pub place_fits : {A : Type 0} (f : List ℕ → A) (cs : List (List ℕ)) (c : List ℕ) (k : ℕ) (xs : List A) → position (λ d. bytes_eq d c) cs ≡ Some k → xs ≡ map f cs → k < length xs
+place_fits f cs c k xs e same = let at = found_there cs c k e in omega (arith, at.0, ap length same, length-map cs f)
