@@ -16,3 +16,4 @@ pub mod SpecialPlans
 pub mod OperationUnits
 pub mod Keeping
 pub mod BlockSteps
+pub mod PathFacts

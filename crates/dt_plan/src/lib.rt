@@ -17,6 +17,7 @@ mod path_ops;
 mod plan_end;
 mod plans;
 mod touches;
+mod visited_paths;
 
 pub use brackets::push_brackets;
 pub use kind::Kind;
@@ -31,3 +32,4 @@ pub use path_ops::{OnPath, push_closed, push_opened};
 pub use plan_end::PlanEnd;
 pub use plans::Plan;
 pub use touches::{Buffer, Mode, Touch, Touches};
+pub use visited_paths::{depth_of, first_paths, visit_count, visited_values};
