@@ -17,3 +17,4 @@ pub mod OperationUnits
 pub mod Keeping
 pub mod BlockSteps
 pub mod PathFacts
+pub mod TrafficFacts

@@ -17,6 +17,7 @@ mod path_ops;
 mod plan_end;
 mod plans;
 mod touches;
+mod traffic;
 mod visited_paths;
 
 pub use brackets::push_brackets;
@@ -30,6 +31,7 @@ pub use outlined::{Around, Outlined, Paths};
 pub use parts::{Part, Parts};
 pub use path_ops::{OnPath, push_closed, push_opened};
 pub use plan_end::PlanEnd;
-pub use plans::Plan;
+pub use plans::{Moves, Plan};
 pub use touches::{Buffer, Mode, Touch, Touches};
+pub use traffic::moves_of;
 pub use visited_paths::{depth_of, first_paths, visit_count, visited_values};
