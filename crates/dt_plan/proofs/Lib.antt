@@ -16,3 +16,5 @@ pub mod SpecialPlans
 pub mod OperationUnits
 pub mod Keeping
 pub mod BlockSteps
+pub mod PathFacts
+pub mod TrafficFacts

@@ -85,6 +85,10 @@ is_local o = nat_eq o.node o.other
 abbrev pub shares_group : MachineView → Op → Bool
 shares_group m o = bytes_eq (group_of m o.node) (group_of m o.other)
 
+-- the positions that an operation moves, if it passes a test
+abbrev pub moved_by : (Op → Bool) → Op → ℕ
+moved_by test o = if is_move o.kind && test o then length o.words else 0
+
 -- the positions that the operations which pass a test move
 abbrev pub positions_moved : (Op → Bool) → List Op → ℕ
 positions_moved test ops = sum_by (λ (o : Op). length o.words) (filter (λ (o : Op). is_move o.kind && test o) ops)

@@ -14,7 +14,7 @@ use std::alloc::Global;
 pub const OP_LIMIT: usize = 8192;
 
 /// The path with one value more.
-fn longer(alloc: Global, path: &[u32], value: u32) -> Result<Vec<u32>, NoMemory>
+pub fn longer(alloc: Global, path: &[u32], value: u32) -> Result<Vec<u32>, NoMemory>
     ensures { IfOk result (λ v. v.items ≡ path.now ++ value ∷ []) }
 {
     let mut longer = Vec::from_slice(alloc, path)?;

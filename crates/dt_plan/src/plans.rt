@@ -12,7 +12,7 @@ use std::marker::Model;
 
 /// Positions that copies and folds move: on one node, between nodes of one group, and between groups.
 #[derive(Clone, Copy, Debug)]
-pub(crate) struct Moves {
+pub struct Moves {
     pub local: u64,
     pub group: u64,
     pub across: u64,
