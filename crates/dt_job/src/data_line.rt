@@ -17,7 +17,12 @@ use std::alloc::Global;
 
 /// `data NAME V V`: a tensor's numbers, in row-major order
 #[tactic(auto, unfolding(crate::specs::DataLine::data_line))]
-pub fn read_data(alloc: Global, draft: &mut Draft, text: &[u8], tokens: &[Token]) -> Result<(), LineStop>
+pub fn read_data(
+    alloc: Global,
+    draft: &mut Draft,
+    text: &[u8],
+    tokens: &[Token],
+) -> Result<(), LineStop>
     requires { All (IsToken (length text.now)) tokens.now }
     ensures { Says (λ _. draft.new) result (data_line draft.old (map (token_in text.now) tokens.now)) }
 {

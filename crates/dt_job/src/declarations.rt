@@ -222,7 +222,8 @@ impl Locator for Declarations {
     }
 
     fn coords(&self, tensor: u32, pos: u32) -> Coords {
-        self.levels(tensor).coords(*self.names.items.allocator(), pos)
+        self.levels(tensor)
+            .coords(*self.names.items.allocator(), pos)
     }
 
     fn count(&self, tensor: u32) -> u32 {

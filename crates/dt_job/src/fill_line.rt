@@ -17,7 +17,12 @@ use std::alloc::Global;
 
 /// `fill NAME ramp` or `fill NAME seed N`
 #[tactic(auto, unfolding(crate::specs::FillLine::fill_line))]
-pub fn read_fill(alloc: Global, draft: &mut Draft, text: &[u8], tokens: &[Token]) -> Result<(), LineStop>
+pub fn read_fill(
+    alloc: Global,
+    draft: &mut Draft,
+    text: &[u8],
+    tokens: &[Token],
+) -> Result<(), LineStop>
     requires { All (IsToken (length text.now)) tokens.now }
     ensures { Says (λ _. draft.new) result (fill_line draft.old (map (token_in text.now) tokens.now)) }
 {
