@@ -23,6 +23,15 @@ said_so x y next (Ok u) part whole w n h = w ∙ ap (λ (p : Result _ Cause). p 
 said_so x y next (Err (stops.Refused c)) part whole w n h = w ∙ ap (λ (p : Result _ Cause). p >>= next) h
 said_so x y next (Err stops.NoMemory) part whole w n h = tt
 
+-- a phase that is not that of an open statement has none
+pub none_open : (p : Phase) → ((s : ScheduledView) → p ≡ phases.Open s → ⊥) → open_stmt p ≡ None
+none_open phases.Version h = refl
+none_open phases.Machine h = refl
+none_open phases.Declarations h = refl
+none_open (phases.Open s) h = absurd (h s refl)
+none_open phases.Statements h = refl
+none_open phases.Outputs h = refl
+
 module _ (d : DraftView) (text : List ℕ) where
   -- the draft with another schedule of this statement
   abbrev with_sched : ScheduledView → Schedule → DraftView

@@ -19,9 +19,9 @@ goes_on : (n : ℕ) (d e : DraftView) (first : List ℕ) (rest : List (List ℕ)
 unfolding lines_from
 goes_on n d e first rest h = rw h refl
 
-stops : (n : ℕ) (d : DraftView) (first : List ℕ) (rest : List (List ℕ)) (c : Cause) → bytes_line d first ≡ Err c → lines_from n d (first ∷ rest) ≡ Err (n, c)
+ends_there : (n : ℕ) (d : DraftView) (first : List ℕ) (rest : List (List ℕ)) (c : Cause) → bytes_line d first ≡ Err c → lines_from n d (first ∷ rest) ≡ Err (n, c)
 unfolding lines_from
-stops n d first rest c h = rw h refl
+ends_there n d first rest c h = rw h refl
 
 -- a line without a cause: what is left to read
 pub line_goes_on : (text : List ℕ) (n : ℕ) (d e : DraftView) (at from to next : ℕ) → lines_of (drop at text) ≡ slice_range text from to ∷ lines_of (drop (to + 1) text)
@@ -32,7 +32,7 @@ line_goes_on text n d e at from to next l r h =
 -- a line with a cause: the answer
 pub line_stops : (text : List ℕ) (n : ℕ) (d : DraftView) (at from to : ℕ) (c : Cause) → lines_of (drop at text) ≡ slice_range text from to ∷ lines_of (drop (to + 1) text)
     → bytes_line d (slice_range text from to) ≡ Err c → lines_from n d (lines_of (drop at text)) ≡ Err (n, c)
-line_stops text n d at from to c l h = ap (λ (ls : List (List ℕ)). lines_from n d ls) l ∙ stops n d (slice_range text from to) (lines_of (drop (to + 1) text)) c h
+line_stops text n d at from to c l h = ap (λ (ls : List (List ℕ)). lines_from n d ls) l ∙ ends_there n d (slice_range text from to) (lines_of (drop (to + 1) text)) c h
 
 -- the end of a text, where the job is whole
 pub finished : (n : ℕ) (d : DraftView) (j : Job) → is_whole d.phase ≡ true → option_map (job_on d) d.machine ≡ Some j → lines_from n d [] ≡ Ok (record { job = j; stmts = stmts_of d })

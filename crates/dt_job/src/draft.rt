@@ -163,12 +163,10 @@ impl Draft {
         let Some(machine) = &self.machine else {
             return Err(LineStop::Refused(Cause::OutOfPlace));
         };
-        match &mut self.phase {
-            Phase::Open(scheduled) => {
-                scheduled.command(alloc, text, machine.dims(), &self.declared)
-            }
-            _ => Err(LineStop::Refused(Cause::OutOfPlace)),
-        }
+        let Phase::Open(scheduled) = &mut self.phase else {
+            return Err(LineStop::Refused(Cause::OutOfPlace));
+        };
+        scheduled.command(alloc, text, machine.dims(), &self.declared)
     }
 
     /// Closes the open statement. If memory runs out, it is lost.
