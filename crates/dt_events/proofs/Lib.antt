@@ -1,1 +1,2 @@
+pub mod NearestSteps
 pub mod WorkedEvents

@@ -1,5 +1,5 @@
 -- The events of plans that are worked by hand: a matrix product on one node, and two statements.
-use Rattle.std.proofs.Common.{◌≡◌, ℕ, false, List, [], ◌∷◌, refl, length, None}
+use Rattle.std.proofs.Common.{◌≡◌, ℕ, false, [], ◌∷◌, refl, length, None}
 use Rattle.dt_base.specs.Ranges.{below}
 use Rattle.dt_model.specs.declared.stmt.Factor.TheVariants.{Read}
 use Rattle.dt_nest.specs.declared.loops.Kernel.TheVariants.{Plain}

@@ -1,6 +1,6 @@
 -- Which operations of a plan conflict.
-use Rattle.std.specs.Prelude.{◌≡◌, ℕ, Bool, true, false, not, ◌&&◌, ◌||◌, List, [], length, option_map, unwrap_or, slice_get, slice_index, slice_index_or, if◌then◌else◌, nat_eq, nat_lt}
-use Rattle.std.specs.List.{list_any}
+use Rattle.std.specs.Prelude.{◌≡◌, ℕ, ◌<◌, Bool, true, false, not, ◌&&◌, ◌||◌, List, [], length, option_map, unwrap_or, slice_get, slice_index, slice_index_or, if◌then◌else◌, nat_eq, nat_lt}
+use Rattle.std.specs.List.{All, list_any}
 use Rattle.dt_runs.specs.Sets.{contains}
 use Rattle.dt_plan.specs.declared.ops.Op.{Op}
 use Rattle.dt_plan.specs.declared.touches.Buffer.{Buffer}
@@ -57,3 +57,7 @@ conflict p a b = not (nat_eq (segment_of p a) (segment_of p b)) || some_meet (sl
 
 abbrev pub Conflicts : PlanView → ℕ → ℕ → Type 0
 Conflicts p a b = conflict p a b ≡ true
+
+-- each operation's statement has a segment
+abbrev pub HasSegments : PlanView → Type 0
+HasSegments p = All (λ (o : Op). o.stmt < length p.segments) p.ops

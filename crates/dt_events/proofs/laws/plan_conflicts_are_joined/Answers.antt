@@ -1,9 +1,6 @@
-use Rattle.std.proofs.Common.{◌≡◌, ℕ, ◌<◌, true, ◌&&◌, length, sym, ◌∙◌, ltb-true}
-use Rattle.std.specs.Prelude.{nat_lt}
+use Rattle.std.proofs.Common.{length, sym, ◌∙◌, ltb-true}
 use Rattle.std.proofs.lemmas.Bool.{and_parts, and_from, lt-ltb}
-use Rattle.dt_argument.specs.Events.{nearest}
 use Rattle.dt_argument.proofs.EventLists.{chain_listed, is_listed_is}
-use Rattle.dt_plan.specs.Limits.{PlanView}
 use Rattle.dt_events.specs.Conflicts.{conflict}
 use Rattle.dt_events.specs.Events.{EventsOfAreNearest}
 use Rattle.dt_events.proofs.laws.plan_conflicts_are_joined.Goals as goal
