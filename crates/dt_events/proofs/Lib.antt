@@ -1,0 +1,2 @@
+pub mod NearestSteps
+pub mod WorkedEvents
