@@ -1,7 +1,8 @@
 //! The operations on a path, from the words of its scratch.
 
-ghost use Rattle.std.specs.Prelude.{◌≡◌, ◌++◌, map, IfOk, OnOk};
+ghost use Rattle.std.specs.Prelude.{◌≡◌, ◌++◌, length, map, IfOk, OnOk};
 ghost use Rattle.std.specs.List.{flat_map};
+ghost use Rattle.dt_plan.specs.Operations.{op_on};
 ghost use Rattle.dt_plan.specs.PathOps.{alloc_of, free_of, copy_of, fold_of, copies_of, folds_of, opened_of, closed_of};
 
 use crate::kind::Kind;
@@ -33,69 +34,39 @@ impl<'a> Model for OnPath<'a> {
     ghost invariant = { λ a. IsOnNode (record { stmt = a.stmt; node = a.node; path = a.path.now; output = a.output; homes = a.homes.now }) };
 }
 
-fn alloc_of(alloc: Global, on: &OnPath, need: &Need) -> Result<Op, NoMemory>
-    ensures { IfOk result (λ op. op ≡ alloc_of on.now need.now) }
+/// The operation of one unit on a path's scratch of a tensor, all of it.
+fn scratch_op(alloc: Global, on: &OnPath, kind: Kind, need: &Need) -> Result<Op, NoMemory>
+    ensures { IfOk result (λ op. op ≡ op_on kind on.now.stmt on.now.node on.now.path need.now.tensor on.now.node need.now.words 1) }
 {
-    let path = Vars::from_slice(alloc, on.path)?;
-    let words = need.words.copied(alloc)?;
     Ok(Op {
         stmt: on.stmt,
         node: on.node,
-        path,
-        kind: Kind::Alloc,
+        path: Vars::from_slice(alloc, on.path)?,
+        kind,
         tensor: need.tensor,
         other: on.node,
-        words,
+        words: need.words.copied(alloc)?,
         units: 1,
     })
 }
 
-fn free_of(alloc: Global, on: &OnPath, need: &Need) -> Result<Op, NoMemory>
-    ensures { IfOk result (λ op. op ≡ free_of on.now need.now) }
+/// The operation that moves a piece of a tensor between a path's scratch and a home, a word a unit.
+fn piece_op(
+    alloc: Global,
+    on: &OnPath,
+    kind: Kind,
+    tensor: u32,
+    piece: &Piece,
+) -> Result<Op, NoMemory>
+    ensures { IfOk result (λ op. op ≡ op_on kind on.now.stmt on.now.node on.now.path tensor piece.now.node piece.now.words (length piece.now.words)) }
 {
-    let path = Vars::from_slice(alloc, on.path)?;
-    let words = need.words.copied(alloc)?;
-    Ok(Op {
-        stmt: on.stmt,
-        node: on.node,
-        path,
-        kind: Kind::Free,
-        tensor: need.tensor,
-        other: on.node,
-        words,
-        units: 1,
-    })
-}
-
-fn copy_of(alloc: Global, on: &OnPath, tensor: u32, piece: &Piece) -> Result<Op, NoMemory>
-    ensures { IfOk result (λ op. op ≡ copy_of on.now tensor piece.now) }
-{
-    let path = Vars::from_slice(alloc, on.path)?;
     let words = piece.words.copied(alloc)?;
     let units = words.count();
     Ok(Op {
         stmt: on.stmt,
         node: on.node,
-        path,
-        kind: Kind::Copy,
-        tensor,
-        other: piece.node,
-        words,
-        units,
-    })
-}
-
-fn fold_of(alloc: Global, on: &OnPath, tensor: u32, piece: &Piece) -> Result<Op, NoMemory>
-    ensures { IfOk result (λ op. op ≡ fold_of on.now tensor piece.now) }
-{
-    let path = Vars::from_slice(alloc, on.path)?;
-    let words = piece.words.copied(alloc)?;
-    let units = words.count();
-    Ok(Op {
-        stmt: on.stmt,
-        node: on.node,
-        path,
-        kind: Kind::Fold,
+        path: Vars::from_slice(alloc, on.path)?,
+        kind,
         tensor,
         other: piece.node,
         words,
@@ -107,7 +78,7 @@ fn push_allocs(alloc: Global, on: &OnPath, needs: &[Need], ops: &mut Ops) -> Res
     ensures { OnOk result (ops.new ≡ ops.old ++ map (alloc_of on.now) needs.now) }
 {
     for need in needs {
-        ops.push(alloc_of(alloc, on, need)?)?;
+        ops.push(scratch_op(alloc, on, Kind::Alloc, need)?)?;
     }
     Ok(())
 }
@@ -116,7 +87,7 @@ fn push_frees(alloc: Global, on: &OnPath, needs: &[Need], ops: &mut Ops) -> Resu
     ensures { OnOk result (ops.new ≡ ops.old ++ map (free_of on.now) needs.now) }
 {
     for need in needs {
-        ops.push(free_of(alloc, on, need)?)?;
+        ops.push(scratch_op(alloc, on, Kind::Free, need)?)?;
     }
     Ok(())
 }
@@ -131,7 +102,7 @@ fn push_copied(
     ensures { OnOk result (ops.new ≡ ops.old ++ map (copy_of on.now tensor) pieces.now) }
 {
     for piece in pieces {
-        ops.push(copy_of(alloc, on, tensor, piece)?)?;
+        ops.push(piece_op(alloc, on, Kind::Copy, tensor, piece)?)?;
     }
     Ok(())
 }
@@ -146,7 +117,7 @@ fn push_folded(
     ensures { OnOk result (ops.new ≡ ops.old ++ map (fold_of on.now tensor) pieces.now) }
 {
     for piece in pieces {
-        ops.push(fold_of(alloc, on, tensor, piece)?)?;
+        ops.push(piece_op(alloc, on, Kind::Fold, tensor, piece)?)?;
     }
     Ok(())
 }
