@@ -1,4 +1,5 @@
-//! The program `distal`: it reads a job from the standard input and prints its answer.
+//! The program `distal`. In: words and the standard input. Out: the answer on the standard output, and the exit status that
+//! belongs to the top call's answer.
 #![tactic(auto)]
 
 ghost use Rattle.std.specs.Prelude.{◌≡◌};

@@ -33,7 +33,7 @@ module _ {C : Type 0} (l : Listing C) where
       )
 
   -- after the first operations in turn the others have not begun, and these are finished
-  turn_rest : (n a : ℕ) → n ≤ a → counts_of (in_turn l n) a ≡ 0
+  pub turn_rest : (n a : ℕ) → n ≤ a → counts_of (in_turn l n) a ≡ 0
   turn_rest zero a h = refl
   turn_rest (suc n) a h =
       ap (λ (d : ℕ → ℕ). d a) (counts-append none_done (in_turn l n) (times (l.units n) n))

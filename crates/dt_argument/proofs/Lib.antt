@@ -4,6 +4,9 @@ pub mod Commuting
 pub mod Counting
 pub mod EventLists
 pub mod InTurn
+pub mod Joining
 pub mod MovingBack
+pub mod OperationRuns
 pub mod Runs
+pub mod Shapes
 pub mod WorkedFacts

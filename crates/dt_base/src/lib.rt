@@ -1,5 +1,6 @@
-//! The list types that every crate speaks in, and want of memory. Its `specs/` and `proofs/` have what is
-//! said of lists and numbers alone: ranges, assignments, row-major numbers and sums.
+//! The list types that every crate speaks in, and want of memory. In: items one by one. Out: exactly the list of them, by
+//! the clause of each call; decimal texts, by `append_number` and `append_joined`. `specs/` and `proofs/` have what is said
+//! of lists and numbers alone: ranges, assignments, row-major numbers and sums.
 #![tactic(auto)]
 
 mod bytes;

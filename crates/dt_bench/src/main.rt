@@ -7,12 +7,14 @@ mod case;
 mod case_end;
 mod homes;
 mod jobs;
+mod memories;
 mod needs;
 mod walk;
 
 use case::{Case, answer};
 use case_end::CaseEnd;
 use homes::homes;
+use memories::{MemoryCall, memory};
 use needs::needs;
 use std::alloc::Global;
 use std::process::ExitCode;
@@ -59,6 +61,12 @@ fn run(alloc: Global, word: &str, size: u32) -> Result<u32, CaseEnd> {
             return Err(CaseEnd::Refused);
         }
         return walked(alloc, walk, size);
+    }
+    if let Some((call, spread)) = MemoryCall::from_word(word) {
+        if size > memories::MOST_WORDS {
+            return Err(CaseEnd::Refused);
+        }
+        return memory(alloc, call, spread, size);
     }
     match Case::from_word(word) {
         None => Err(CaseEnd::Refused),

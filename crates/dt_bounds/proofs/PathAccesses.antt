@@ -23,7 +23,7 @@ use Rattle.dt_nest.specs.Meaning.{World, Env, bind, renamed, guards_hold, takes,
 use Rattle.dt_nest.specs.World.{world_of}
 use Rattle.dt_nest.specs.Lawful.{Loops, also, Follows, AllFollow, IsSubstituted, HaveKernels, IsLawful}
 use Rattle.dt_nest.specs.Odometer.{HaveSlots}
-use Rattle.dt_nest.specs.Visits.{Scope, at_root, entered, in_producer, LeafNode, LeafVisit, Item, IsReset, IsVisit, value_in, tests_of, no_slots, with_reset, values_on, lane_visit, valid_values, substituted_visits, tree_visits, visits_of, environments, is_accessed, touches, needed_of}
+use Rattle.dt_nest.specs.Visits.{Scope, at_root, entered, in_producer, LeafNode, LeafVisit, Item, IsReset, IsVisit, value_in, tests_of, no_slots, with_reset, values_on, lane_visit, valid_values, substituted_visits, tree_visits, visits_of, environments, is_accessed, touches, needed_of, leaf_node}
 use Rattle.dt_nest.specs.Effects.{left_at}
 use Rattle.dt_nest.proofs.Agree.{known_agree, map_agree}
 use Rattle.dt_nest.proofs.Names.{renamed-append}
@@ -116,9 +116,9 @@ module _ (w : World) (ds : List Derived) where
   kernel_touched walk v n (Pre work more p q) around scope slots k l a i = tt
   kernel_touched walk v n (Leaf lhs terms guards Plain) around scope slots k l a i = absurd (cc)
   kernel_touched walk v n (Leaf lhs terms guards Dot) around scope slots k l a i =
-      lane_touched (record { lhs = lhs; terms = terms; guards = guards; kernel = Dot }) around scope slots v n (valid_values (tests_of w ds) walk v n guards scope.pairs slots) l a i.1
+      lane_touched (record { lhs = lhs; terms = terms; guards = guards; kernel = Dot }) around scope slots v n (valid_values (tests_of w ds) walk v n (leaf_node lhs terms guards Dot) scope.pairs slots) l a i.1
   kernel_touched walk v n (Leaf lhs terms guards Dot3) around scope slots k l a i =
-      lane_touched (record { lhs = lhs; terms = terms; guards = guards; kernel = Dot3 }) around scope slots v n (valid_values (tests_of w ds) walk v n guards scope.pairs slots) l a i.1
+      lane_touched (record { lhs = lhs; terms = terms; guards = guards; kernel = Dot3 }) around scope slots v n (valid_values (tests_of w ds) walk v n (leaf_node lhs terms guards Dot3) scope.pairs slots) l a i.1
 
   reset_touched : (work : ℕ) (items : List Item) → AllByRecursion LeftTouched items → AllByRecursion LeftTouched (with_reset work items)
   reset_touched work [] h = tt

@@ -15,7 +15,7 @@ use Rattle.dt_nest.specs.Tree.{Tree, Loop, Pre, Leaf, is_kernel_leaf, read_acces
 use Rattle.dt_nest.specs.Schedule.{Schedule}
 use Rattle.dt_nest.specs.World.{world_of}
 use Rattle.dt_nest.specs.Lawful.{IsNamed}
-use Rattle.dt_nest.specs.Visits.{Scope, at_root, entered, in_producer, LeafNode, Item, IsReset, IsVisit, Tests, tests_of, no_slots, with_reset, values_on, lane_visit, valid_values, substituted_visits, tree_visits, visits_of, environments, needed_of}
+use Rattle.dt_nest.specs.Visits.{Scope, at_root, entered, in_producer, LeafNode, Item, IsReset, IsVisit, Tests, tests_of, no_slots, with_reset, values_on, lane_visit, valid_values, substituted_visits, tree_visits, visits_of, environments, needed_of, leaf_node}
 use Rattle.dt_nest.specs.Effects.{left_at}
 use Rattle.dt_nest.specs.Unit.{Cell, Word, Sign, State, word_of, is_held, are_held, added_by, written_by, grown_at, cleared_at, can_do, unit_of}
 use Rattle.dt_bounds.specs.NeededPaths.{IsNeededAt, AccessesNeeded, LeftNeeded}
@@ -46,7 +46,7 @@ module _ (t : Tests) (s : Schedule) where
   substituted_resets walk v n (Loop u m more inner) scope slots = tt
   substituted_resets walk v n (Pre work more p q) scope slots = tt
   substituted_resets walk v n (Leaf lhs terms guards kernel) scope slots =
-      lane_resets (record { lhs = lhs; terms = terms; guards = guards; kernel = kernel }) scope slots v n (valid_values t walk v n guards scope.pairs slots)
+      lane_resets (record { lhs = lhs; terms = terms; guards = guards; kernel = kernel }) scope slots v n (valid_values t walk v n (leaf_node lhs terms guards kernel) scope.pairs slots)
 
   with_resets : (work : ℕ) (items : List Item) → work < length s.works → Resets items → Resets (with_reset work items)
   with_resets work [] l h = tt
@@ -73,7 +73,7 @@ module _ (t : Tests) (s : Schedule) where
   tree_resets (Pre work more p q) scope slots path h =
       with_resets work (tree_visits t p (in_producer scope more) slots [] ++ tree_visits t q scope slots []) h.0
       (all_append (ResetBelow (length s.works)) (tree_visits t p (in_producer scope more) slots []) (tree_visits t q scope slots []) (tree_resets p (in_producer scope more) slots [] h.2) (tree_resets q scope slots [] h.3))
-  tree_resets (Leaf lhs terms guards kernel) scope slots path h = go (t.holds guards scope.pairs slots)
+  tree_resets (Leaf lhs terms guards kernel) scope slots path h = go (t.holds (leaf_node lhs terms guards kernel) scope.pairs slots)
     where
       go : (b : Bool) → Resets (if b then IsVisit (record { leaf = record { lhs = lhs; terms = terms; guards = guards; kernel = kernel }; around = scope.around; pairs = scope.pairs; slots = slots; lanes = None }) ∷ [] else [])
       go true = (tt, tt)

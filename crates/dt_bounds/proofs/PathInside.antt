@@ -22,7 +22,7 @@ use Rattle.dt_nest.specs.World.{world_of, FitsAccess}
 use Rattle.dt_nest.specs.Lawful.{Loops, also, Follows, AllFollow, IsSubstituted, HaveKernels, IsNamed, AccessBelow, WorkAccess}
 use Rattle.dt_nest.proofs.Inside.{StaysInside, stays_inside}
 use Rattle.dt_nest.specs.Odometer.{HaveSlots}
-use Rattle.dt_nest.specs.Visits.{Scope, at_root, entered, in_producer, LeafNode, Item, IsReset, IsVisit, value_in, tests_of, no_slots, with_reset, values_on, is_valid, lane_visit, valid_values, substituted_visits, tree_visits, visits_of, IsPathIn}
+use Rattle.dt_nest.specs.Visits.{Scope, at_root, entered, in_producer, LeafNode, Item, IsReset, IsVisit, value_in, tests_of, no_slots, with_reset, values_on, is_valid, lane_visit, valid_values, substituted_visits, tree_visits, visits_of, IsPathIn, leaf_node}
 use Rattle.dt_nest.specs.Effects.{left_at}
 use Rattle.dt_nest.proofs.Agree.{known_agree, map_agree}
 use Rattle.dt_nest.specs.Outputs.{output_of}
@@ -72,19 +72,19 @@ module _ (s : Schedule) (w : World) (extent_is : w.extent ≡ slice_index s.exte
   vars_below : (val : Env) (vars : List ℕ) (P : ℕ → Type 0) → ((u : ℕ) → P u → val u < w.extent u) → AllByRecursion P vars → AllByRecursion (λ u. val u < slice_index s.extents u) vars
   vars_below val vars P f h = all_map P (λ u. val u < slice_index s.extents u) (λ u k. subst (λ (e : ℕ → ℕ). val u < e u) extent_is (f u k)) vars h
 
-  lane_inside : (walk : Option Walk) (v n : ℕ) (lhs : Access) (leaf : LeafNode) (guards : List ℕ) (around : Loops) (scope : Scope) (slots : List ℕ) → leaf.lhs ≡ lhs → v < length slots → around v ≡ false
+  lane_inside : (walk : Option Walk) (v n : ℕ) (lhs : Access) (leaf : LeafNode) (around : Loops) (scope : Scope) (slots : List ℕ) → leaf.lhs ≡ lhs → v < length slots → around v ≡ false
       → AllByRecursion (λ u. Follows ds around (renamed scope.pairs) (renamed scope.pairs u)) lhs.vars → AllByRecursion (λ u. Follows ds (also around v) (renamed scope.pairs) (renamed scope.pairs u)) lhs.vars
-      → ((i : ℕ) → i < n → guards_hold w (value_in w ds scope.pairs (slice_set slots v i)) guards ≡ true → (u : ℕ) → Follows ds (also around v) (renamed scope.pairs) (renamed scope.pairs u) → value_in w ds scope.pairs (slice_set slots v i) u < w.extent u)
-      → Q lhs → (valid : List ℕ) → AllByRecursion (λ x. (x < n) × (is_valid (tests_of w ds) walk v guards scope.pairs slots x ≡ true)) valid → AllByRecursion LeftInside (lane_visit leaf scope slots v n valid)
-  lane_inside walk v n lhs leaf guards around scope slots le room a f g inside q [] h = tt
-  lane_inside walk v n lhs leaf guards around scope slots le room a f g inside q (x ∷ valid) h = (
+      → ((i : ℕ) → i < n → guards_hold w (value_in w ds scope.pairs (slice_set slots v i)) leaf.guards ≡ true → (u : ℕ) → Follows ds (also around v) (renamed scope.pairs) (renamed scope.pairs u) → value_in w ds scope.pairs (slice_set slots v i) u < w.extent u)
+      → Q lhs → (valid : List ℕ) → AllByRecursion (λ x. (x < n) × (is_valid (tests_of w ds) walk v leaf scope.pairs slots x ≡ true)) valid → AllByRecursion LeftInside (lane_visit leaf scope slots v n valid)
+  lane_inside walk v n lhs leaf around scope slots le room a f g inside q [] h = tt
+  lane_inside walk v n lhs leaf around scope slots le room a f g inside q (x ∷ valid) h = (
     (
       subst Q (sym le) q,
       subst (λ (l : Access). is_some (row_major (map (λ v. slice_index s.extents v) l.vars) (map (value_in w ds scope.pairs slots) l.vars)) ≡ true) (sym le)
           (subst (λ (c : List ℕ). is_some (row_major (map (λ v. slice_index s.extents v) lhs.vars) c) ≡ true) (sym same)
           (row_some s.extents (value_in w ds scope.pairs (slice_set slots v x)) lhs.vars
           (vars_below (value_in w ds scope.pairs (slice_set slots v x)) lhs.vars (λ u. Follows ds (also around v) (renamed scope.pairs) (renamed scope.pairs u))
-          (inside x h.0.0 (and_parts (takes w walk v (renamed scope.pairs) (value_in w ds scope.pairs (slice_set slots v x))) (guards_hold w (value_in w ds scope.pairs (slice_set slots v x)) guards) h.0.1).1) g))),
+          (inside x h.0.0 (and_parts (takes w walk v (renamed scope.pairs) (value_in w ds scope.pairs (slice_set slots v x))) (guards_hold w (value_in w ds scope.pairs (slice_set slots v x)) leaf.guards) h.0.1).1) g))),
     ),
     tt,
   )
@@ -110,13 +110,13 @@ module _ (s : Schedule) (w : World) (extent_is : w.extent ≡ slice_index s.exte
   kernel_inside walk v n (Pre work more p r) around scope slots k l a i f h q = tt
   kernel_inside walk v n (Leaf lhs terms guards Plain) around scope slots k l a i f h q = absurd (cc)
   kernel_inside walk v n (Leaf lhs terms guards Dot) around scope slots k l a i f h q =
-      lane_inside walk v n lhs (record { lhs = lhs; terms = terms; guards = guards; kernel = Dot }) guards around scope slots refl l a i.1 f.0.0
-      (λ j m. moved_inside (Leaf lhs terms guards Dot) (also around v) scope slots v j l (h j m)) q.0 (valid_values (tests_of w ds) walk v n guards scope.pairs slots)
-      (passing (λ x. x < n) (is_valid (tests_of w ds) walk v guards scope.pairs slots) (range_with_len 0 n) (subst (AllByRecursion (λ i. i < n)) (sym (range_with_len-below n)) (below_all n)))
+      lane_inside walk v n lhs (record { lhs = lhs; terms = terms; guards = guards; kernel = Dot }) around scope slots refl l a i.1 f.0.0
+      (λ j m. moved_inside (Leaf lhs terms guards Dot) (also around v) scope slots v j l (h j m)) q.0 (valid_values (tests_of w ds) walk v n (leaf_node lhs terms guards Dot) scope.pairs slots)
+      (passing (λ x. x < n) (is_valid (tests_of w ds) walk v (leaf_node lhs terms guards Dot) scope.pairs slots) (range_with_len 0 n) (subst (AllByRecursion (λ i. i < n)) (sym (range_with_len-below n)) (below_all n)))
   kernel_inside walk v n (Leaf lhs terms guards Dot3) around scope slots k l a i f h q =
-      lane_inside walk v n lhs (record { lhs = lhs; terms = terms; guards = guards; kernel = Dot3 }) guards around scope slots refl l a i.1 f.0.0
-      (λ j m. moved_inside (Leaf lhs terms guards Dot3) (also around v) scope slots v j l (h j m)) q.0 (valid_values (tests_of w ds) walk v n guards scope.pairs slots)
-      (passing (λ x. x < n) (is_valid (tests_of w ds) walk v guards scope.pairs slots) (range_with_len 0 n) (subst (AllByRecursion (λ i. i < n)) (sym (range_with_len-below n)) (below_all n)))
+      lane_inside walk v n lhs (record { lhs = lhs; terms = terms; guards = guards; kernel = Dot3 }) around scope slots refl l a i.1 f.0.0
+      (λ j m. moved_inside (Leaf lhs terms guards Dot3) (also around v) scope slots v j l (h j m)) q.0 (valid_values (tests_of w ds) walk v n (leaf_node lhs terms guards Dot3) scope.pairs slots)
+      (passing (λ x. x < n) (is_valid (tests_of w ds) walk v (leaf_node lhs terms guards Dot3) scope.pairs slots) (range_with_len 0 n) (subst (AllByRecursion (λ i. i < n)) (sym (range_with_len-below n)) (below_all n)))
 
   reset_inside : (work : ℕ) (items : List Item) → AllByRecursion LeftInside items → AllByRecursion LeftInside (with_reset work items)
   reset_inside work [] h = tt

@@ -12,7 +12,7 @@ use Rattle.dt_nest.specs.Schedule.{Schedule}
 use Rattle.dt_nest.specs.World.{world_of}
 use Rattle.dt_nest.specs.Lawful.{IsLawful}
 use Rattle.dt_nest.specs.Outputs.{output_of, WritesWorks}
-use Rattle.dt_nest.specs.Visits.{Scope, at_root, entered, in_producer, LeafNode, Item, IsReset, IsVisit, Tests, tests_of, no_slots, with_reset, values_on, lane_visit, valid_values, substituted_visits, tree_visits, visits_of, needed_of}
+use Rattle.dt_nest.specs.Visits.{Scope, at_root, entered, in_producer, LeafNode, Item, IsReset, IsVisit, Tests, tests_of, no_slots, with_reset, values_on, lane_visit, valid_values, substituted_visits, tree_visits, visits_of, needed_of, leaf_node}
 use Rattle.dt_nest.specs.Effects.{left_at}
 use Rattle.dt_nest.specs.Unit.{Word, State, added_by, written_by, grown_at, cleared_at, unit_of}
 use Rattle.dt_bounds.specs.NeededPaths.{LeftNeeded}
@@ -42,7 +42,7 @@ module _ (t : Tests) (n : ℕ) where
   substituted_writes walk v m (Loop u k more inner) scope slots = tt
   substituted_writes walk v m (Pre work more p q) scope slots = tt
   substituted_writes walk v m (Leaf lhs terms guards kernel) scope slots =
-      lane_writes (record { lhs = lhs; terms = terms; guards = guards; kernel = kernel }) scope slots v m (valid_values t walk v m guards scope.pairs slots)
+      lane_writes (record { lhs = lhs; terms = terms; guards = guards; kernel = kernel }) scope slots v m (valid_values t walk v m (leaf_node lhs terms guards kernel) scope.pairs slots)
 
   reset_writes : (work u : ℕ) (items : List Item) → AllByRecursion (WritesOnly n u) items → AllByRecursion (WritesOnly n u) (with_reset work items)
   reset_writes work u [] h = tt
@@ -73,7 +73,7 @@ module _ (t : Tests) (n : ℕ) where
       (all_append (WritesOnly n (output_of q)) (tree_visits t p (in_producer scope more) slots []) (tree_visits t q scope slots [])
       (all_map (WritesOnly n (output_of p)) (WritesOnly n (output_of q)) (λ item k. let e = h.0 in writes_past n (output_of p) (output_of q) (omega (arith, e)) item k) (tree_visits t p (in_producer scope more) slots []) (tree_writes p (in_producer scope more) slots [] h.1))
       (tree_writes q scope slots [] h.2))
-  tree_writes (Leaf lhs terms guards kernel) scope slots path h = go (t.holds guards scope.pairs slots)
+  tree_writes (Leaf lhs terms guards kernel) scope slots path h = go (t.holds (leaf_node lhs terms guards kernel) scope.pairs slots)
     where
       go : (b : Bool) → AllByRecursion (WritesOnly n lhs.tensor) (if b then IsVisit (record { leaf = record { lhs = lhs; terms = terms; guards = guards; kernel = kernel }; around = scope.around; pairs = scope.pairs; slots = slots; lanes = None }) ∷ [] else [])
       go true = (inl refl, tt)

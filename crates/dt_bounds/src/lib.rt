@@ -1,4 +1,6 @@
-//! The words of tensors that the parts of a nest need.
+//! In: a schedule, where the words of its tensors lie, and a path. Out: the words of a tensor that the visits under the
+//! path need. Proved by `needed`: exactly the positions at which an access is in a visit under the path. Laws tie longer
+//! paths to shorter ones.
 #![tactic(auto)]
 
 mod accesses;

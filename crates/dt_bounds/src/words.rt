@@ -51,6 +51,8 @@ fn touched<L: Locator>(
     ensures { IfOk result (λ positions. (x : ℕ) → contains positions.items x ≡ is_touched (world_of (L.tensors loc.now) sched.now) sched.now.derived (tensor_at (L.tensors loc.now) tensor) tensor (visits_of (L.tensors loc.now) sched.now path.now) x) }
 {
     let mut visits = Visits::over(alloc, sched, loc, path)?;
+    let mut room = visits.lane_room(alloc)?;
+    let values = room.as_mut_slice();
     let target = Target { loc, tensor };
     let mut found = Found {
         positions: Vec::new(alloc),
@@ -59,7 +61,7 @@ fn touched<L: Locator>(
     loop {
         match visits.next() {
             None => return Ok(positions_of(found)),
-            Some(item) => push_item(&visits, item, &target, &mut found)?,
+            Some(item) => push_item(&visits, item, &target, values, &mut found)?,
         }
     }
 }
@@ -79,14 +81,17 @@ fn push_item<L: Locator>(
     visits: &Visits<L>,
     item: Visit,
     target: &Target<L>,
+    values: &mut [Option<u32>],
     found: &mut Found,
 ) -> Result<(), NoMemory>
     requires item { option_map answer_of visits.now.last ≡ Some item }
     requires target { IsTarget (L.tensors target.now.loc.now) target.now.tensor }
-    ensures { OnOk result (Adds (length (tensor_at (L.tensors target.now.loc.now) target.now.tensor).coords) (last_touches visits.now (tensor_at (L.tensors target.now.loc.now) target.now.tensor) target.now.tensor) found.old.positions.items found.new.positions.items) }
+    requires room { length values.old ≡ length visits.now.sched.names }
+    ensures adds { OnOk result (Adds (length (tensor_at (L.tensors target.now.loc.now) target.now.tensor).coords) (last_touches visits.now (tensor_at (L.tensors target.now.loc.now) target.now.tensor) target.now.tensor) found.old.positions.items found.new.positions.items) }
+    ensures room { length values.new ≡ length values.old }
 {
     match item {
         Visit::Reset(_) => Ok(()),
-        Visit::Leaf => push_visit(visits, target, found),
+        Visit::Leaf => push_visit(visits, target, values, found),
     }
 }

@@ -1,4 +1,5 @@
-//! Where the words that a node needs are copied from, and which homes share them.
+//! In: the words that a node needs, and the homes of their tensor. Out: the pieces that it copies, by source, and the homes
+//! that share its words. Proved by `pieces`, `shares`, and the laws `pieces_serve` and `shares_reach_homes`.
 #![tactic(auto)]
 
 mod laws;

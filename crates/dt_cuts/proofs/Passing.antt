@@ -12,7 +12,8 @@ use Rattle.dt_nest.specs.Tree.{has_loop, loop_count}
 use Rattle.dt_nest.specs.Questions.{is_among, is_fixed}
 use Rattle.dt_nest.specs.Schedule.{Schedule}
 use Rattle.dt_cuts.specs.Cutting.{AreFree}
-use Rattle.dt_cuts.specs.Causes.{bad_number, too_many_loops, first_cause, unless, first_with, name_of, unknown_loop, taken_name, free_tests, not_free}
+use Rattle.dt_nest.specs.PartNames.{name_of}
+use Rattle.dt_cuts.specs.Causes.{bad_number, too_many_loops, first_cause, unless, first_with, unknown_loop, taken_name, free_tests, not_free}
 
 -- where there is no cause, no test gives one
 pub all_pass : (tests : List (Option Cause)) → first_cause tests ≡ None → AllByRecursion (λ test. test ≡ None) tests

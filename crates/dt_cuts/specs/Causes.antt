@@ -1,10 +1,11 @@
 -- The causes against commands, and tests that several commands have.
-use Rattle.std.specs.Prelude.{ℕ, ◌+◌, ◌&&◌, Bool, true, false, not, List, [], ◌∷◌, ◌++◌, Option, Some, None, option_map, find, if◌then◌else◌, nat_eq, nat_le, slice_index_or}
+use Rattle.std.specs.Prelude.{ℕ, ◌+◌, ◌&&◌, Bool, true, false, not, List, [], ◌∷◌, ◌++◌, Option, Some, None, option_map, find, if◌then◌else◌, nat_eq, nat_le}
 use Rattle.std.specs.List.{list_any}
 use Rattle.std.specs.Str.{bytes_eq}
 use Rattle.dt_model.specs.declared.cause.Cause.{Cause}
 use Rattle.dt_model.specs.declared.cause.Cause.TheVariants as cause
 use Rattle.dt_nest.specs.Tree.{has_loop, loop_count}
+use Rattle.dt_nest.specs.PartNames.{name_of}
 use Rattle.dt_nest.specs.Questions.{is_among, is_fixed}
 use Rattle.dt_nest.specs.Schedule.{Schedule}
 
@@ -22,10 +23,6 @@ unless false c = Some c
 -- the cause with the first of these loops that passes the test
 abbrev pub first_with : (ℕ → Bool) → (ℕ → Cause) → List ℕ → Option Cause
 first_with test c vs = option_map c (find test vs)
-
--- the name of a loop or variable
-abbrev pub name_of : Schedule → ℕ → List ℕ
-name_of s v = slice_index_or s.names v []
 
 -- UnknownLoop with the first that is no loop of the nest now
 abbrev pub unknown_loop : Schedule → List ℕ → Option Cause

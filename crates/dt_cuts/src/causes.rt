@@ -5,11 +5,12 @@ ghost use Rattle.std.specs.List.{list_any};
 ghost use Rattle.std.specs.Str.{bytes_eq};
 ghost use Rattle.dt_nest.specs.Schedule.{seen};
 ghost use Rattle.dt_nest.specs.Tree.{loop_count};
-ghost use Rattle.dt_cuts.specs.Causes.{bad_number, communicated_loop, distributed_loop, fixed_loop, name_of, not_free, taken_name, too_many_loops, unknown_loop, unless};
+ghost use Rattle.dt_nest.specs.PartNames.{name_of};
+ghost use Rattle.dt_cuts.specs.Causes.{bad_number, communicated_loop, distributed_loop, fixed_loop, not_free, taken_name, too_many_loops, unknown_loop, unless};
 
 use dt_base::{Name, NoMemory};
 use dt_model::Cause;
-use dt_nest::{Moved, NameTable, SchedParts, has_loop, is_among, is_fixed, loop_count};
+use dt_nest::{Moved, NameTable, SchedParts, has_loop, is_among, is_fixed, loop_count, name_of};
 
 /// A test that has to hold.
 pub fn unless(test: bool, cause: Cause) -> Option<Cause>
@@ -39,16 +40,6 @@ pub fn first_new_loop(parts: &SchedParts, count: u32) -> Result<u32, NoMemory>
         return Err(NoMemory);
     }
     Ok(names as u32)
-}
-
-/// The name of a loop or variable, empty where there is none.
-pub fn name_of(parts: &SchedParts, v: u32) -> Name
-    ensures { result ≡ name_of (seen parts.now) v }
-{
-    match parts.names.as_slice().get(v as usize) {
-        Some(name) => name.copied(),
-        None => Name::from_slice(&[]),
-    }
 }
 
 pub fn unknown_loop(parts: &SchedParts, vars: &[u32]) -> Option<Cause>

@@ -1,2 +1,11 @@
 pub mod Conflicts
 pub mod Events
+pub mod JobLaws
+pub mod Jobs
+pub mod ListingRuns
+pub mod Placed
+pub mod PresenceLaws
+pub mod State
+pub mod StateLaws
+pub mod Units
+pub mod Worked

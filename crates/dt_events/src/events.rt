@@ -88,8 +88,8 @@ fn is_nearest(plan: &Plan, conflicts: bool, met: &[u32], op: u32) -> bool
 
 /// How many operations a plan has.
 fn op_count(plan: &Plan) -> u32
-    requires { IsPlan plan.now }
-    ensures { result ≡ length plan.now.ops }
+    ensures count { result ≡ length plan.now.ops }
+    ensures plan { IsPlan plan.now }
 {
     plan.ops().len() as u32
 }
@@ -133,7 +133,6 @@ fn push_events(
     first: u32,
     pairs: &mut Vec<(u32, u32)>,
 ) -> Result<(), EventsEnd>
-    requires plan { IsPlan plan.now }
     requires segments { HasSegments plan.now }
     requires first { first < length plan.now.ops }
     requires within { length pairs.old.items ≤ event_limit }
@@ -158,8 +157,6 @@ fn push_events(
 /// The events of a plan: the pairs of operations that conflict with no operation between them that conflicts with both.
 /// TooManyEvents where there are more than 1,048,576; the count stops there.
 pub fn events_of(alloc: Global, plan: &Plan) -> Result<Events, EventsEnd>
-    requires plan { IsPlan plan.now }
-    requires segments { HasSegments plan.now }
     ensures pairs { IfOk result (λ events. events ≡ events_of plan.now) }
     ensures within { IfOk result (λ events. length events ≤ event_limit) }
     ensures many { result ≡ Err TooManyEvents → event_limit < length (events_of plan.now) }

@@ -1,4 +1,5 @@
-//! Statements in index notation: their symbols, their form, and what they say of the tensors that are known.
+//! In: a statement's text, and what is known of the tensors. Out: the statement, or its first cause, by `parse_stmt`; and
+//! its text again, by `print_stmt`, which is read as that statement (`printed_is_read_again`).
 #![tactic(auto)]
 
 mod access_list;

@@ -1,4 +1,5 @@
 pub mod Faults
+pub mod Files
 pub mod Memory
 pub mod Standard
 pub mod Takes

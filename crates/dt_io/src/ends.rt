@@ -11,3 +11,18 @@ pub enum ReadEnd {
     TooLong,
     NoMemory,
 }
+
+/// Why a file wasn't fetched.
+#[derive(Clone, Copy, Debug, PartialEq, Eq)]
+pub enum FetchEnd {
+    Failed,
+    TooLong,
+    NoMemory,
+}
+
+/// Why a file wasn't put.
+#[derive(Clone, Copy, Debug, PartialEq, Eq)]
+pub enum PutEnd {
+    Failed,
+    NoMemory,
+}

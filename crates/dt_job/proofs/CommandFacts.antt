@@ -11,6 +11,7 @@ use Rattle.dt_job.specs.declared.line_stop.LineStop.{LineStop}
 use Rattle.dt_job.specs.declared.line_stop.LineStop.TheVariants as stops
 use Rattle.dt_job.specs.declared.phases.Phase.{Phase}
 use Rattle.dt_job.specs.declared.phases.Phase.TheVariants as phases
+use Rattle.dt_job.specs.Contents.{stored_of_all}
 use Rattle.dt_job.specs.Drafts.{DraftView}
 use Rattle.dt_job.specs.Phases.{open_stmt}
 use Rattle.dt_job.specs.ScheduleLine.{schedule_line}
@@ -42,7 +43,7 @@ module _ (d : DraftView) (text : List ℕ) where
 
   -- what the line says where this statement is open on a machine with these dimensions
   abbrev said : Option ScheduledView → Option (List ℕ) → Result DraftView Cause
-  said o grid = found o cause.OutOfPlace >>= λ s. found grid cause.OutOfPlace >>= λ dims. command_line s.sched dims (tokens_of text) >>= with_next s
+  said o grid = found o cause.OutOfPlace >>= λ s. found grid cause.OutOfPlace >>= λ dims. command_line s.sched dims (stored_of_all d.tensors) (tokens_of text) >>= with_next s
 
   -- no statement is open
   pub not_open : open_stmt d.phase ≡ None → schedule_line d text ≡ Err cause.OutOfPlace
@@ -60,9 +61,9 @@ module _ (d : DraftView) (text : List ℕ) where
 
   -- the open statement gets another schedule, or the line has a cause
   pub commanded : {X : Type 0} (new : DraftView) (s t : ScheduledView) (m : MachineView) (r : Result X LineStop) → d.phase ≡ phases.Open s → d.machine ≡ Some m → t ≡ record s { sched = t.sched } → new ≡ record d { phase = phases.Open t }
-      → Says (λ _. t.sched) r (command_line s.sched (dims_of m) (tokens_of text)) → Says (λ _. new) r (schedule_line d text)
+      → Says (λ _. t.sched) r (command_line s.sched (dims_of m) (stored_of_all d.tensors) (tokens_of text)) → Says (λ _. new) r (schedule_line d text)
   unfolding schedule_line
   commanded new s t m r p k o n h =
-      said_so t.sched new (with_next s) r (command_line s.sched (dims_of m) (tokens_of text)) (schedule_line d text)
+      said_so t.sched new (with_next s) r (command_line s.sched (dims_of m) (stored_of_all d.tensors) (tokens_of text)) (schedule_line d text)
       (ap (λ (p : Phase). said (open_stmt p) (option_map dims_of d.machine)) p ∙ ap (λ (o : Option MachineView). said (Some s) (option_map dims_of o)) k)
       (ap (λ (u : ScheduledView). Ok (record d { phase = phases.Open u })) (sym o) ∙ ap (λ (e : DraftView). Ok e) (sym n)) h

@@ -10,8 +10,6 @@ use Rattle.std.proofs.lemmas.List.Elements.{All-cons, All-map, All-push}
 use Rattle.std.proofs.lemmas.Option.{slice_get-map}
 use Rattle.std.proofs.Math.Seq.{get_or-append_seam}
 use Rattle.dt_model.specs.Positions.{StoredTensor, IsStored, tensor_at}
-use Rattle.dt_model.specs.Shape.{dims, IsShape}
-use Rattle.dt_model.specs.declared.shape.Shape.{Shape}
 use Rattle.dt_index.specs.Known.{Known, place_of, is_dense_at, shapes_of_known}
 use Rattle.indexmap.specs.Layout.{set_value_at}
 use Rattle.indexmap.proofs.MapLemmas.{some_index}
@@ -20,9 +18,10 @@ use Rattle.dt_job.specs.declared.outputs.Show.TheVariants.{Print}
 use Rattle.dt_place.specs.Machines.{MachineView, dims_of}
 use Rattle.dt_place.specs.declared.placements.Placement.{Placement}
 use Rattle.dt_place.specs.declared.placements.Placement.TheVariants.{FirstNode}
-use Rattle.dt_job.specs.Contents.{Content, Contents, extents_of_all, known_of, names_of, placement_of, places_of, stored_of_all, tensor_of, tensors_of, with_placement, with_values}
+use Rattle.dt_job.specs.Contents.{Content, Contents, extents_of_all, has_dense_levels, known_of, names_of, placement_of, places_of, stored_of_all, tensors_of, with_placement, with_values}
 use Rattle.dt_job.specs.Drafts.{DraftView, FitsMachine, IsDraft, IsPlaced, IsScheduled, grid_of, part_of, stated}
-use Rattle.dt_job.specs.Jobs.{FitsOn, IsJob, IsJobStmt, IsJobTensor, ShowsBelow}
+use Rattle.dt_job.specs.JobTensors.{IsJobTensor}
+use Rattle.dt_job.specs.Jobs.{FitsOn, IsJob, IsJobStmt, ShowsBelow}
 use Rattle.dt_job.specs.PartsOf.{ArePartsOf}
 use Rattle.dt_job.specs.Phases.{is_past_declarations, knows_machine, open_stmt, takes_declaration, takes_machine}
 use Rattle.dt_job.specs.Read.{job_on, stmts_of}
@@ -32,14 +31,19 @@ use Rattle.dt_plan.specs.declared.parts.Part.{Part}
 use Rattle.dt_job.specs.Scheduled.{ScheduledView}
 use Rattle.dt_job.specs.declared.job.Job.{Job}
 use Rattle.dt_job.proofs.PhaseFacts.{declaration_phase, machine_phase}
-use Rattle.dt_tensor.specs.Packed.{Packed, dense_levels, stored_of}
-use Rattle.dt_tensor.proofs.DenseTensors.{IsStored-dense}
+use Rattle.dt_tensor.specs.Packed.{Packed, packed_with, stored_of}
 
--- every declared tensor is dense
-pub all_dense : (tensors : Contents) (k : ℕ) → true ≡ is_dense_at (known_of tensors) k
-all_dense [] k = refl
-all_dense (t ∷ ts) zero = refl
-all_dense (t ∷ ts) (suc k) = all_dense ts k
+not_there : {A : Type 0} (x : A) → ◌≡◌ {A = Option A} None (Some x) → ⊥
+not_there x e = cc
+
+same_there : {A : Type 0} (x y : A) → ◌≡◌ {A = Option A} (Some x) (Some y) → x ≡ y
+same_there x y e = cc
+
+-- whether the levels of the tensor at a place are dense
+pub dense_at : (tensors : Contents) (k : ℕ) (c : Content) → option_map (λ t. t.1) (slice_get tensors k) ≡ Some c → has_dense_levels c.packed ≡ is_dense_at (known_of tensors) k
+dense_at [] k c g = absurd (not_there c g)
+dense_at (t ∷ ts) zero c g = ap (λ (x : Content). has_dense_levels x.packed) (sym (same_there t.1 c g))
+dense_at (t ∷ ts) (suc k) c g = dense_at ts k c g
 
 front-map : {A B : Type 0} (p : B → Bool) (f : A → B) (xs : List A) → prefix_len p (map f xs) ≡ prefix_len (λ x. p (f x)) xs
 front-map p f [] = refl
@@ -56,7 +60,7 @@ pub place_known : (name : List ℕ) (tensors : Contents) → position (bytes_eq 
 place_known name tensors =
     position-map (bytes_eq name) (λ t. t.0) tensors
     ∙ (λ i. position (λ t. nat_list_eq_equiv.symm name t.0 i) tensors)
-    ∙ sym (position-map (λ (k : Known). bytes_eq k.name name) (λ t. record { name = t.0; extents = t.1.extents; dense = true }) tensors)
+    ∙ sym (position-map (λ (k : Known). bytes_eq k.name name) (λ t. record { name = t.0; extents = t.1.packed.extents; dense = has_dense_levels t.1.packed }) tensors)
 
 is_none_of : {A : Type 0} (o : Option A) → is_some o ≡ false → o ≡ None
 is_none_of None h = refl
@@ -69,7 +73,7 @@ absent_name name tensors h = is_none_of (lookup (bytes_eq name) tensors) (sym (s
 -- the extents as statements know them
 pub known_shapes : (tensors : Contents) → shapes_of_known (known_of tensors) ≡ extents_of_all tensors
 known_shapes [] = refl
-known_shapes (t ∷ ts) = ap (λ (xs : List (List ℕ)). t.1.extents ∷ xs) (known_shapes ts)
+known_shapes (t ∷ ts) = ap (λ (xs : List (List ℕ)). t.1.packed.extents ∷ xs) (known_shapes ts)
 
 below_more : (n m : ℕ) (show : Show) → n < m + 1 → ShowsBelow n show → ShowsBelow m show
 below_more n m (Print k) l h = omega (arith, l, h)
@@ -89,22 +93,20 @@ changed_tensors d tensors early h placed more few differ stored = record {
   shows = λ k s l. below_more (length d.tensors) (length tensors) (get_or d.shows k s) (omega (arith, more)) (h.shows k s l);
 }
 
-stored_more : (shapes : List (List ℕ)) (ns : List ℕ) → AllByRecursion IsStored (map dense_levels shapes) → IsStored (dense_levels ns) → AllByRecursion IsStored (map dense_levels (shapes ++ ns ∷ []))
-stored_more [] ns h s = (s, tt)
-stored_more (x ∷ xs) ns h s = (h.0, stored_more xs ns h.1 s)
+stored_more : (tensors : Contents) (t : List ℕ × Content) → AllByRecursion IsStored (stored_of_all tensors) → IsStored (stored_of t.1.packed) → AllByRecursion IsStored (stored_of_all (tensors ++ t ∷ []))
+stored_more [] t h s = (s, tt)
+stored_more (x ∷ xs) t h s = (h.0, stored_more xs t h.1 s)
 
 -- one more tensor, which no line has placed
-pub declared_draft : (d : DraftView) (name : List ℕ) (c : Content) (shape : Shape) (tensors : Contents) → takes_declaration d.phase ≡ true → length d.tensors < 32 → IsDraft d
-    → c ≡ record { extents = dims shape; values = None; placement = None } → IsShape shape → tensors ≡ d.tensors ++ (name, c) ∷ [] → IsDistinct bytes_eq (names_of tensors) → IsDraft (record d { tensors = tensors })
-declared_draft d name c shape tensors early few h is lawful e differ =
+pub declared_draft : (d : DraftView) (name : List ℕ) (c : Content) (tensors : Contents) → takes_declaration d.phase ≡ true → length d.tensors < 32 → IsDraft d → c.placement ≡ None → IsStored (stored_of c.packed)
+    → tensors ≡ d.tensors ++ (name, c) ∷ [] → IsDistinct bytes_eq (names_of tensors) → IsDraft (record d { tensors = tensors })
+declared_draft d name c tensors early few h free stored e differ =
     let count : length tensors ≡ length d.tensors + 1 = ap length e ∙ rw length-append (omega arith) in
-    let shapes : extents_of_all tensors ≡ extents_of_all d.tensors ++ dims shape ∷ [] =
-    ap (λ (ts : Contents). extents_of_all ts) e ∙ map-append (λ (t : List ℕ × Content). t.1.extents) d.tensors ((name, c) ∷ []) ∙ ap (λ (x : Content). extents_of_all d.tensors ++ x.extents ∷ []) is in
     let P : Contents → Type 0 = λ ts. All (IsPlaced d.machine) ts in
     let O : Option Placement → Type 0 = λ o. IfSome o (FitsMachine d.machine) in
-    let S : List (List ℕ) → Type 0 = λ l. AllByRecursion IsStored (map dense_levels l) in
-    changed_tensors d tensors early h (subst P (sym e) (All-push (IsPlaced d.machine) d.tensors (name, c) h.places (subst O (sym (ap (λ (x : Content). x.placement) is)) tt)))
-    (omega (arith, count)) (omega (arith, count, few)) differ (subst S (sym shapes) (stored_more (extents_of_all d.tensors) (dims shape) h.stored (IsStored-dense shape lawful)))
+    let S : Contents → Type 0 = λ ts. AllByRecursion IsStored (stored_of_all ts) in
+    changed_tensors d tensors early h (subst P (sym e) (All-push (IsPlaced d.machine) d.tensors (name, c) h.places (subst O (sym free) tt)))
+    (omega (arith, count)) (omega (arith, count, few)) differ (subst S (sym e) (stored_more d.tensors (name, c) h.stored stored))
 
 -- as many tensors stand there where one changes
 pub count_kept : (tensors : Contents) (k : ℕ) (c : Content) → length (set_value_at tensors k c) ≡ length tensors
@@ -117,25 +119,14 @@ names_kept [] k c = refl
 names_kept (t ∷ ts) zero c = refl
 names_kept (t ∷ ts) (suc k) c = ap (λ (l : List (List ℕ)). t.0 ∷ l) (names_kept ts k c)
 
--- the extents stay where a tensor gets numbers
-extents_kept : (tensors : Contents) (k : ℕ) (was now : Content) → option_map (λ t. t.1) (slice_get tensors k) ≡ Some was → now.extents ≡ was.extents → extents_of_all (set_value_at tensors k now) ≡ extents_of_all tensors
-extents_kept [] k was now h e = refl
-extents_kept (t ∷ ts) zero was now h e =
-    ap (λ (ns : List ℕ). ns ∷ extents_of_all ts) (e ∙ ap (λ (o : Option Content). extents_or o) (sym h))
-  where
-    extents_or : Option Content → List ℕ
-    extents_or None = []
-    extents_or (Some c) = c.extents
-extents_kept (t ∷ ts) (suc k) was now h e = ap (λ (xs : List (List ℕ)). t.1.extents ∷ xs) (extents_kept ts k was now h e)
+-- what the tensors store stays where one gets numbers
+stored_stays : (tensors : Contents) (k : ℕ) (was now : Content) → option_map (λ t. t.1) (slice_get tensors k) ≡ Some was → stored_of now.packed ≡ stored_of was.packed → stored_of_all (set_value_at tensors k now) ≡ stored_of_all tensors
+stored_stays [] k was now h e = refl
+stored_stays (t ∷ ts) zero was now h e = ap (λ (s : StoredTensor). s ∷ stored_of_all ts) (e ∙ ap (λ (c : Content). stored_of c.packed) (sym (same_there t.1 was h)))
+stored_stays (t ∷ ts) (suc k) was now h e = ap (λ (l : List StoredTensor). stored_of t.1.packed ∷ l) (stored_stays ts k was now h e)
 
 all_behind : {A : Type 0} (P : A → Type 0) (x : A) (xs : List A) → All P (x ∷ xs) → All P xs
 all_behind P x xs h k d l = h (suc k) d (omega (arith, l))
-
-not_there : {A : Type 0} (x : A) → ◌≡◌ {A = Option A} None (Some x) → ⊥
-not_there x e = cc
-
-same_there : {A : Type 0} (x y : A) → ◌≡◌ {A = Option A} (Some x) (Some y) → x ≡ y
-same_there x y e = cc
 
 -- what is so for each tensor stays so where one of them changes and it is so for the new one
 all_set : (P : Content → Type 0) (tensors : Contents) (k : ℕ) (now : Content) → P now → All (λ t. P t.1) tensors → All (λ t. P t.1) (set_value_at tensors k now)
@@ -150,22 +141,22 @@ all_at P (t ∷ ts) zero was g h = subst P (same_there t.1 was g) (h zero t (ome
 all_at P (t ∷ ts) (suc k) was g h = all_at P ts k was g (all_behind (λ u. P u.1) t ts h)
 
 -- a tensor changes: its extents stay, and its placement fits the machine
-changed_draft : (d : DraftView) (k : ℕ) (was now : Content) → takes_declaration d.phase ≡ true → option_map (λ t. t.1) (slice_get d.tensors k) ≡ Some was → now.extents ≡ was.extents → IfSome now.placement (FitsMachine d.machine) → IsDraft d
+changed_draft : (d : DraftView) (k : ℕ) (was now : Content) → takes_declaration d.phase ≡ true → option_map (λ t. t.1) (slice_get d.tensors k) ≡ Some was → stored_of now.packed ≡ stored_of was.packed → IfSome now.placement (FitsMachine d.machine) → IsDraft d
     → IsDraft (record d { tensors = set_value_at d.tensors k now })
 changed_draft d k was now early g e p h =
     let count : length (set_value_at d.tensors k now) ≡ length d.tensors = count_kept d.tensors k now in
     let N : List (List ℕ) → Type 0 = λ l. IsDistinct bytes_eq l in
-    let S : List (List ℕ) → Type 0 = λ l. AllByRecursion IsStored (map dense_levels l) in
+    let S : List StoredTensor → Type 0 = λ l. AllByRecursion IsStored l in
     changed_tensors d (set_value_at d.tensors k now) early h (all_set (λ c. IfSome c.placement (FitsMachine d.machine)) d.tensors k now p h.places) (omega (arith, count)) (omega (arith, h.few, count))
-    (subst N (sym (names_kept d.tensors k now)) h.differ) (subst S (sym (extents_kept d.tensors k was now g e)) h.stored)
+    (subst N (sym (names_kept d.tensors k now)) h.differ) (subst S (sym (stored_stays d.tensors k was now g e)) h.stored)
 
-gets_numbers : (d : DraftView) (k : ℕ) (was now : Content) → takes_declaration d.phase ≡ true → option_map (λ t. t.1) (slice_get d.tensors k) ≡ Some was → now.extents ≡ was.extents → now.placement ≡ was.placement → IsDraft d
+gets_numbers : (d : DraftView) (k : ℕ) (was now : Content) → takes_declaration d.phase ≡ true → option_map (λ t. t.1) (slice_get d.tensors k) ≡ Some was → stored_of now.packed ≡ stored_of was.packed → now.placement ≡ was.placement → IsDraft d
     → IsDraft (record d { tensors = set_value_at d.tensors k now })
 gets_numbers d k was now early g e p h =
     let O : Option Placement → Type 0 = λ o. IfSome o (FitsMachine d.machine) in
     changed_draft d k was now early g e (subst O (sym p) (all_at (λ c. IfSome c.placement (FitsMachine d.machine)) d.tensors k was g h.places)) h
 
-gets_placed : (d : DraftView) (k : ℕ) (was now : Content) (p : Placement) → takes_declaration d.phase ≡ true → option_map (λ t. t.1) (slice_get d.tensors k) ≡ Some was → now.extents ≡ was.extents → now.placement ≡ Some p → FitsMachine d.machine p → IsDraft d
+gets_placed : (d : DraftView) (k : ℕ) (was now : Content) (p : Placement) → takes_declaration d.phase ≡ true → option_map (λ t. t.1) (slice_get d.tensors k) ≡ Some was → stored_of now.packed ≡ stored_of was.packed → now.placement ≡ Some p → FitsMachine d.machine p → IsDraft d
     → IsDraft (record d { tensors = set_value_at d.tensors k now })
 gets_placed d k was now p early g e n f h =
     let O : Option Placement → Type 0 = λ o. IfSome o (FitsMachine d.machine) in
@@ -175,9 +166,9 @@ gets_placed d k was now p early g e n f h =
 pub given_draft : (d : DraftView) (k : ℕ) (values : List ℕ) → takes_declaration d.phase ≡ true → IsDraft d → IsDraft (record d { tensors = with_values d.tensors k values })
 given_draft d k values early h = go (slice_get d.tensors k) refl
   where
-    go : (o : Option (List ℕ × Content)) → slice_get d.tensors k ≡ o → IsDraft (record d { tensors = unwrap_or (option_map (λ t. set_value_at d.tensors k (record t.1 { values = Some values })) o) d.tensors })
+    go : (o : Option (List ℕ × Content)) → slice_get d.tensors k ≡ o → IsDraft (record d { tensors = unwrap_or (option_map (λ t. set_value_at d.tensors k (record t.1 { packed = packed_with (stored_of t.1.packed) values; given = true })) o) d.tensors })
     go None e = h
-    go (Some t) e = gets_numbers d k t.1 (record t.1 { values = Some values }) early (ap (λ (o : Option (List ℕ × Content)). option_map (λ u. u.1) o) e) refl refl h
+    go (Some t) e = gets_numbers d k t.1 (record t.1 { packed = packed_with (stored_of t.1.packed) values; given = true }) early (ap (λ (o : Option (List ℕ × Content)). option_map (λ u. u.1) o) e) refl refl h
 
 -- a tensor is placed
 pub placed_draft : (d : DraftView) (k : ℕ) (p : Placement) → takes_declaration d.phase ≡ true → FitsMachine d.machine p → IsDraft d → IsDraft (record d { tensors = with_placement d.tensors k p })
@@ -197,9 +188,9 @@ pub named_kept : (tensors : Contents) (k : ℕ) (c : Content) (names : List (Lis
 named_kept tensors k c names e = e ∙ sym (names_kept tensors k c)
 
 -- what the tensor at a place stores
-pub stored_at : (tensors : Contents) (k : ℕ) (c : Content) → option_map (λ t. t.1) (slice_get tensors k) ≡ Some c → dense_levels c.extents ≡ tensor_at (stored_of_all tensors) k
+pub stored_at : (tensors : Contents) (k : ℕ) (c : Content) → option_map (λ t. t.1) (slice_get tensors k) ≡ Some c → stored_of c.packed ≡ tensor_at (stored_of_all tensors) k
 stored_at [] k c g = absurd (not_there c g)
-stored_at (t ∷ ts) zero c g = ap (λ (x : Content). dense_levels x.extents) (sym (same_there t.1 c g))
+stored_at (t ∷ ts) zero c g = ap (λ (x : Content). stored_of x.packed) (sym (same_there t.1 c g))
 stored_at (t ∷ ts) (suc k) c g = stored_at ts k c g
 
 changed_at : (F : Content → Contents) (tensors : Contents) (o : Option (List ℕ × Content)) (was : Content) → option_map (λ t. t.1) o ≡ Some was → F was ≡ unwrap_or (option_map (λ t. F t.1) o) tensors
@@ -207,9 +198,9 @@ changed_at F tensors None was g = absurd (not_there was g)
 changed_at F tensors (Some t) was g = ap F (sym (same_there t.1 was g))
 
 -- the tensors after one of them gets numbers
-pub given_tensors : (tensors : Contents) (k : ℕ) (was now : Content) (ns : List ℕ) → option_map (λ t. t.1) (slice_get tensors k) ≡ Some was → now ≡ record was { values = Some ns } → set_value_at tensors k now ≡ with_values tensors k ns
+pub given_tensors : (tensors : Contents) (k : ℕ) (was now : Content) (ns : List ℕ) → option_map (λ t. t.1) (slice_get tensors k) ≡ Some was → now ≡ record was { packed = packed_with (stored_of was.packed) ns; given = true } → set_value_at tensors k now ≡ with_values tensors k ns
 given_tensors tensors k was now ns g e =
-    ap (λ (c : Content). set_value_at tensors k c) e ∙ changed_at (λ c. set_value_at tensors k (record c { values = Some ns })) tensors (slice_get tensors k) was g
+    ap (λ (c : Content). set_value_at tensors k c) e ∙ changed_at (λ c. set_value_at tensors k (record c { packed = packed_with (stored_of c.packed) ns; given = true })) tensors (slice_get tensors k) was g
 
 -- the tensors after one of them is placed
 pub placed_tensors : (tensors : Contents) (k : ℕ) (was now : Content) (p : Placement) → option_map (λ t. t.1) (slice_get tensors k) ≡ Some was → now ≡ record was { placement = Some p } → set_value_at tensors k now ≡ with_placement tensors k p
@@ -357,7 +348,7 @@ lawful_more front after t a h l = (let P : List Packed → Type 0 = λ ts. All I
 
 shapes_kept : (tensors : Contents) → map (λ (t : Packed). t.extents) (tensors_of tensors) ≡ extents_of_all tensors
 shapes_kept [] = refl
-shapes_kept (t ∷ ts) = ap (λ (xs : List (List ℕ)). t.1.extents ∷ xs) (shapes_kept ts)
+shapes_kept (t ∷ ts) = ap (λ (xs : List (List ℕ)). t.1.packed.extents ∷ xs) (shapes_kept ts)
 
 -- the placement of a tensor fits the machine, also where no line says it
 placed_fits : (m : MachineView) (o : Option Placement) → IfSome o (FitsMachine (Some m)) → FitsOn m (unwrap_or o FirstNode)
@@ -370,7 +361,7 @@ places_fit m tensors h = All-map (FitsOn m) (λ t. placement_of t.1) tensors (λ
 -- the tensors of a job store what those of its draft do
 stored_kept : (tensors : Contents) → map stored_of (tensors_of tensors) ≡ stored_of_all tensors
 stored_kept [] = refl
-stored_kept (t ∷ ts) = ap (λ (l : List StoredTensor). dense_levels t.1.extents ∷ l) (stored_kept ts)
+stored_kept (t ∷ ts) = ap (λ (l : List StoredTensor). stored_of t.1.packed ∷ l) (stored_kept ts)
 
 -- statements with their schedules are parts
 are_parts : (dims : List ℕ) (tensors : Contents) (closed : List ScheduledView) → All (IsScheduled dims tensors) closed → ArePartsOf dims (stored_of_all tensors) (names_of tensors) (map (λ s. s.stmt) closed) (map part_of closed)
@@ -398,18 +389,18 @@ lawful_job d m j e k h t =
     let D : Option MachineView → Type 0 = λ machine. All (IsScheduled (grid_of machine) d.tensors) d.closed in
     let closed : D (Some m) = subst D k (closed_all (IsScheduled (grid_of d.machine) d.tensors) d.closed (open_stmt d.phase) h.stmts) in
     subst (IsJob (stmts_of d)) (sym e) (record {
-      named = length-map d.tensors (λ c. c.0) ∙ sym (length-map d.tensors (λ c. tensor_of c.1));
+      named = length-map d.tensors (λ c. c.0) ∙ sym (length-map d.tensors (λ c. c.1.packed));
       differ = h.differ;
-      few = omega (arith, h.few, length-map d.tensors (λ c. tensor_of c.1));
+      few = omega (arith, h.few, length-map d.tensors (λ c. c.1.packed));
       tensors = subst P e t;
-      placed = length-map d.tensors (λ c. placement_of c.1) ∙ sym (length-map d.tensors (λ c. tensor_of c.1));
+      placed = length-map d.tensors (λ c. placement_of c.1) ∙ sym (length-map d.tensors (λ c. c.1.packed));
       places = places_fit m d.tensors (subst Q k h.places);
       few_stmts = omega (arith, h.few_stmts, closed_few d.closed (open_stmt d.phase), length-map d.closed (λ s. s.stmt));
       stmts = rw (shapes_kept d.tensors) (All-map (IsJobStmt (extents_of_all d.tensors)) (λ (s : ScheduledView). s.stmt) d.closed (λ k s l. (closed k s l).stmt));
       headed = length-map d.closed (λ s. s.head) ∙ sym (length-map d.closed (λ s. s.stmt));
       parts = subst S (sym (stored_kept d.tensors)) (are_parts (dims_of m) d.tensors d.closed closed);
       segments = segments_stay d.closed;
-      shows = λ k s l. below_more (length d.tensors) (length (tensors_of d.tensors)) (get_or d.shows k s) (omega (arith, length-map d.tensors (λ c. tensor_of c.1))) (h.shows k s l);
+      shows = λ k s l. below_more (length d.tensors) (length (tensors_of d.tensors)) (get_or d.shows k s) (omega (arith, length-map d.tensors (λ c. c.1.packed))) (h.shows k s l);
     })
 
 -- the job that is made where no tensor is left

@@ -2,11 +2,8 @@
 use Rattle.std.proofs.Common.{◌≡◌, ℕ, zero, suc, ◌+◌, ◌/◌, ◌^◌, List, [], ◌∷◌, ◌++◌, map, length, length-append, refl, ap, sym, ◌∙◌, add-one, arith}
 use Rattle.std.proofs.lemmas.List.{length-map, map-append}
 use Rattle.dt_base.specs.Ranges.{below}
+use Rattle.dt_base.proofs.Ranges.{length-below, map_below-more}
 use Rattle.dt_job.specs.Fills.{next_state, ramp_values, seed_values, state_after}
-
--- a list over the numbers below n + 1
-map_below-more : (f : ℕ → ℕ) (n : ℕ) → map f (below (n + 1)) ≡ map f (below n) ++ f n ∷ []
-map_below-more f n = rw add-one (map-append f (below n) (n ∷ []))
 
 -- one more position of a ramp
 pub ramp_values-more : (n k : ℕ) (front after : List ℕ) → k ≡ n → front ≡ ramp_values n → after ≡ front ++ (k + 1) ∷ [] → after ≡ ramp_values (n + 1)
@@ -20,10 +17,6 @@ state_after-more seed n state next s e = rw add-one (e ∙ ap next_state s)
 pub seed_values-more : (seed n next : ℕ) (front after : List ℕ) → next ≡ state_after seed (n + 1) → front ≡ seed_values seed n → after ≡ front ++ (next / 2 ^ 33) ∷ [] → after ≡ seed_values seed (n + 1)
 seed_values-more seed n next front after s f a =
     a ∙ ap (λ (xs : List ℕ). xs ++ (next / 2 ^ 33) ∷ []) f ∙ ap (λ (k : ℕ). seed_values seed n ++ (k / 2 ^ 33) ∷ []) s ∙ sym (map_below-more (λ p. state_after seed (p + 1) / 2 ^ 33) n)
-
-length-below : (n : ℕ) → length (below n) ≡ n
-length-below zero = refl
-length-below (suc n) = length-append (below n) (n ∷ []) ∙ omega (arith, length-below n)
 
 -- a ramp has a number for each position
 pub length-ramp_values : (n : ℕ) → length (ramp_values n) ≡ n

@@ -12,15 +12,17 @@ use Rattle.dt_model.specs.declared.stmt.Factor.{Factor}
 use Rattle.dt_model.specs.declared.stmt.Factor.TheVariants.{Read, Literal}
 use Rattle.dt_model.specs.declared.stmt.Stmt.{Stmt}
 use Rattle.dt_model.specs.declared.stmt.Term.{Term}
+use Rattle.dt_index.specs.Known.{is_dense_at}
 use Rattle.dt_index.specs.Reads.{factor_reads, term_reads, right_side_reads}
 use Rattle.dt_nest.specs.Chain.{chain, stmt_schedule, MeansStmt}
 use Rattle.dt_nest.specs.Outputs.{output_of, reads_of}
 use Rattle.dt_nest.specs.Tree.{Tree, factor_accesses, read_accesses}
 use Rattle.dt_nest.proofs.StmtFits.{stmt_fits}
-use Rattle.dt_tensor.specs.Packed.{dense_levels}
-use Rattle.dt_job.specs.Contents.{Contents, extents_of_all, names_of, stored_of_all}
+use Rattle.dt_tensor.specs.Packed.{stored_of}
+use Rattle.dt_job.specs.Contents.{Contents, extents_of_all, known_of, names_of, stored_of_all}
 use Rattle.dt_job.specs.Jobs.{IsJobStmt}
 use Rattle.dt_job.specs.PartsOf.{IsPartOf}
+use Rattle.dt_job.proofs.JobTensorFacts.{declared_dense}
 
 -- loops around a tree write what it writes
 output_chain : (v : ℕ) (ns : List ℕ) (tree : Tree) → output_of (chain v ns tree) ≡ output_of tree
@@ -55,28 +57,23 @@ terms_have : (k : ℕ) (s : Stmt) → has_access k (read_accesses s.terms) ≡ r
 terms_have k s = parts_have k (λ (t : Term). flat_map factor_accesses t.factors) (term_reads k) (λ t. parts_have k factor_accesses (factor_reads k) (factor_has k) t.factors) s.terms
 
 -- what the tensors store has their extents
-stored_extents : (shapes : List (List ℕ)) → map (λ (t : StoredTensor). t.extents) (map dense_levels shapes) ≡ shapes
+stored_extents : (tensors : Contents) → map (λ (t : StoredTensor). t.extents) (stored_of_all tensors) ≡ extents_of_all tensors
 stored_extents [] = refl
-stored_extents (ns ∷ shapes) = ap (λ (l : List (List ℕ)). ns ∷ l) (stored_extents shapes)
-
--- each of them has dense levels alone
-dense_at : (shapes : List (List ℕ)) (k : ℕ) → k < length shapes → tensor_at (map dense_levels shapes) k ≡ dense_levels (tensor_at (map dense_levels shapes) k).extents
-dense_at [] k l = absurd (omega (arith, l))
-dense_at (ns ∷ shapes) zero l = refl
-dense_at (ns ∷ shapes) (suc k) l = dense_at shapes k (omega (arith, l))
+stored_extents (t ∷ ts) = ap (λ (l : List (List ℕ)). t.1.packed.extents ∷ l) (stored_extents ts)
 
 -- the schedule that a statement starts with makes a part of it
 pub first_part : (dims : List ℕ) (tensors : Contents) (s : Stmt) (vars : List (List ℕ)) → MeansStmt s (stmt_schedule s vars (names_of tensors)) → IsJobStmt (extents_of_all tensors) s → AllByRecursion IsStored (stored_of_all tensors)
+    → is_dense_at (known_of tensors) s.lhs.tensor ≡ true
     → IsPartOf dims (stored_of_all tensors) (names_of tensors) s (record { sched = stmt_schedule s vars (names_of tensors); adds = s.adds; segment = 0 })
 unfolding stmt_schedule
-first_part dims tensors s vars means h levels = record {
+first_part dims tensors s vars means h levels left = record {
   means = means;
   adds = refl;
   tensors = refl;
-  fits = stmt_fits (stored_of_all tensors) s vars (names_of tensors) (subst (λ (l : List (List ℕ)). IsStmt l s) (sym (stored_extents (extents_of_all tensors))) h.stands)
-      (length-map (extents_of_all tensors) dense_levels ∙ length-map tensors (λ t. t.1.extents) ∙ sym (length-map tensors (λ t. t.0))) levels;
+  fits = stmt_fits (stored_of_all tensors) s vars (names_of tensors) (subst (λ (l : List (List ℕ)). IsStmt l s) (sym (stored_extents tensors)) h.stands)
+      (length-map tensors (λ t. stored_of t.1.packed) ∙ sym (length-map tensors (λ t. t.0))) levels;
   grid = inl refl;
   output = output_chain 0 s.extents _;
-  dense = dense_at (extents_of_all tensors) s.lhs.tensor (slice_get_within (extents_of_all tensors) s.lhs.tensor _ h.stands.target.fits);
+  dense = declared_dense tensors s.lhs.tensor (omega (arith, slice_get_within (extents_of_all tensors) s.lhs.tensor _ h.stands.target.fits, length-map tensors (λ t. t.1.packed.extents))) levels left;
   unread = ap (λ (l : List Access). has_access s.lhs.tensor l) (reads_chain 0 s.extents _) ∙ terms_have s.lhs.tensor s ∙ h.unread;
 }

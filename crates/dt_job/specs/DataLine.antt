@@ -1,6 +1,5 @@
 -- A line `data`.
-use Rattle.std.specs.Prelude.{ℕ, List, [], ◌∷◌, length, not, ◌&&◌, ◌==◌, Result, Ok, Err}
-use Rattle.dt_text.specs.Names.{is_name}
+use Rattle.std.specs.Prelude.{ℕ, List, length, not, ◌==◌, Result, Ok}
 use Rattle.dt_text.specs.Numbers.{all_numbers_of}
 use Rattle.dt_model.specs.declared.cause.Cause.{Cause}
 use Rattle.dt_model.specs.declared.cause.Cause.TheVariants as cause
@@ -8,7 +7,7 @@ use Rattle.dt_model.specs.Steps.{◌>>=◌, need, found}
 use Rattle.dt_index.specs.Known.{place_of}
 use Rattle.dt_job.specs.Contents.{Contents, is_given, known_of, position_count_of, with_values}
 use Rattle.dt_job.specs.Drafts.{DraftView}
-use Rattle.dt_job.specs.Phases.{takes_declaration}
+use Rattle.dt_job.specs.GivenWords.{given_words}
 use Rattle.dt_job.specs.Shapes.{are_numerals}
 
 -- the number of the tensor with this name, which no line has given numbers yet
@@ -27,11 +26,8 @@ numbers_line d name ns = do
 
 -- `data NAME V V`: a tensor's numbers, in row-major order
 unfoldable pub data_line : DraftView → List (List ℕ) → Result DraftView Cause
-data_line d [] = do
-  _ ← need (takes_declaration d.phase) cause.OutOfPlace
-  Err cause.Syntax
-data_line d (name ∷ values) = do
-  _ ← need (takes_declaration d.phase) cause.OutOfPlace
-  _ ← need (is_name name && are_numerals values) cause.Syntax
-  ns ← found (all_numbers_of values) cause.BadNumber
-  numbers_line d name ns
+data_line d words = do
+  g ← given_words d.phase words
+  _ ← need (are_numerals g.1) cause.Syntax
+  ns ← found (all_numbers_of g.1) cause.BadNumber
+  numbers_line d g.0 ns

@@ -1,7 +1,6 @@
 -- A line `fill`.
 use Rattle.std.specs.Prelude.{ℕ, List, [], ◌∷◌, codes, Result, Ok, Err}
 use Rattle.std.specs.Str.{bytes_eq}
-use Rattle.dt_text.specs.Names.{is_name}
 use Rattle.dt_model.specs.declared.cause.Cause.{Cause}
 use Rattle.dt_model.specs.declared.cause.Cause.TheVariants as cause
 use Rattle.dt_model.specs.Steps.{◌>>=◌, need}
@@ -10,7 +9,7 @@ use Rattle.dt_job.specs.Drafts.{DraftView}
 use Rattle.dt_job.specs.Fills.{fill_values}
 use Rattle.dt_job.specs.declared.fills.Fill.{Fill}
 use Rattle.dt_job.specs.declared.fills.Fill.TheVariants.{Ramp, Seed}
-use Rattle.dt_job.specs.Phases.{takes_declaration}
+use Rattle.dt_job.specs.GivenWords.{given_words}
 use Rattle.dt_job.specs.Shapes.{numeral_of}
 use Rattle.dt_job.specs.DataLine.{ungiven_number}
 
@@ -33,11 +32,7 @@ filled_in d name fill = do
 
 -- `fill NAME ramp` or `fill NAME seed N`
 unfoldable pub fill_line : DraftView → List (List ℕ) → Result DraftView Cause
-fill_line d [] = do
-  _ ← need (takes_declaration d.phase) cause.OutOfPlace
-  Err cause.Syntax
-fill_line d (name ∷ kind) = do
-  _ ← need (takes_declaration d.phase) cause.OutOfPlace
-  _ ← need (is_name name) cause.Syntax
-  fill ← fill_of kind
-  filled_in d name fill
+fill_line d words = do
+  g ← given_words d.phase words
+  fill ← fill_of g.1
+  filled_in d g.0 fill

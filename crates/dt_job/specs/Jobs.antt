@@ -1,20 +1,19 @@
 -- A whole job.
-use Rattle.std.specs.Prelude.{◌≡◌, ℕ, ◌<◌, ◌≤◌, List, length, map, All, IsSome, IsSortedBy, false, nat_lt}
+use Rattle.std.specs.Prelude.{◌≡◌, ℕ, ◌<◌, ◌≤◌, List, length, map, All, IsSortedBy, false, nat_lt}
 use Rattle.std.specs.List.{IsDistinct}
 use Rattle.std.specs.Str.{bytes_eq}
-use Rattle.dt_base.specs.Rows.{product}
-use Rattle.dt_model.specs.Shape.{shape_of_extents}
 use Rattle.dt_model.specs.Stmts.{AreEven, AreUsed, IsStmt}
 use Rattle.dt_model.specs.declared.stmt.Stmt.{Stmt}
 use Rattle.dt_index.specs.Reads.{right_side_reads}
 use Rattle.dt_index.specs.Resolve.{IsSmall}
-use Rattle.dt_tensor.specs.Packed.{Packed, dense_tensor, stored_of}
+use Rattle.dt_tensor.specs.Packed.{stored_of}
 use Rattle.dt_place.specs.Machines.{MachineView, dims_of}
 use Rattle.dt_place.specs.Placements.{IsPlacement}
 use Rattle.dt_place.specs.declared.placements.Placement.{Placement}
 use Rattle.dt_job.specs.declared.job.Job.{Job}
 use Rattle.dt_job.specs.declared.outputs.Show.{Show}
 use Rattle.dt_job.specs.declared.outputs.Show.TheVariants.{Print}
+use Rattle.dt_job.specs.JobTensors.{IsJobTensor}
 use Rattle.dt_job.specs.PartsOf.{ArePartsOf}
 
 -- A statement over tensors of these shapes: each variable stands in it, each term has each reduction variable, it has
@@ -29,13 +28,6 @@ pub record IsJobStmt (shapes : List (List ℕ)) (s : Stmt) : Type 0 where
 -- an output shows one of the first n tensors
 abbrev pub ShowsBelow : ℕ → Show → Type 0
 ShowsBelow n (Print k) = k < n
-
--- a tensor with dense levels alone and one number for each position, of which there are at most 2 ^ 20
-pub record IsJobTensor (t : Packed) : Type 0 where
-  pub shape : IsSome (shape_of_extents t.extents)
-  pub dense : t ≡ dense_tensor t.extents t.values
-  pub full : length t.values ≡ product t.extents
-  pub few : product t.extents ≤ 1048576
 
 -- the extents of each tensor
 abbrev pub shapes_of_job : Job → List (List ℕ)

@@ -5,6 +5,8 @@ pub mod Drafts
 pub mod EndLine
 pub mod FillLine
 pub mod Fills
+pub mod GivenWords
+pub mod JobTensors
 pub mod Jobs
 pub mod Lines
 pub mod MachineLine

@@ -8,11 +8,12 @@ ghost use Rattle.dt_job.specs.DataLine.{data_line, numbers_line, ungiven_number}
 
 use crate::declarations::Declarations;
 use crate::draft::Draft;
+use crate::given_words::read_given_words;
 use crate::line_stop::LineStop;
 use crate::numerals::{are_numerals, read_numbers};
 use dt_base::Name;
 use dt_model::Cause;
-use dt_text::{Token, is_name, word};
+use dt_text::Token;
 use std::alloc::Global;
 
 /// `data NAME V V`: a tensor's numbers, in row-major order
@@ -26,20 +27,12 @@ pub fn read_data(
     requires { All (IsToken (length text.now)) tokens.now }
     ensures { Says (λ _. draft.new) result (data_line draft.old (map (token_in text.now) tokens.now)) }
 {
-    if !draft.phase().takes_declaration() {
-        return Err(LineStop::Refused(Cause::OutOfPlace));
+    let given = read_given_words(draft, text, tokens)?;
+    if !are_numerals(text, given.behind) {
+        return Err(LineStop::Refused(Cause::Syntax));
     }
-    match tokens {
-        [] => Err(LineStop::Refused(Cause::Syntax)),
-        [name, values @ ..] => {
-            let name = word(text, *name);
-            if !is_name(name) || !are_numerals(text, values) {
-                return Err(LineStop::Refused(Cause::Syntax));
-            }
-            let numbers = read_numbers(alloc, text, values)?;
-            give_numbers(draft, name, numbers)
-        }
-    }
+    let numbers = read_numbers(alloc, text, given.behind)?;
+    give_numbers(draft, given.name, numbers)
 }
 
 /// These numbers for the tensor with this name.

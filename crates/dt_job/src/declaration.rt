@@ -1,64 +1,58 @@
 //! A declared tensor.
 
-ghost use Rattle.std.specs.Prelude.{◌≡◌, ◌≤◌, IfOk, None, Some, is_some};
-ghost use Rattle.dt_base.specs.Rows.{product};
+ghost use Rattle.std.specs.Prelude.{◌≡◌, None, Some};
 ghost use Rattle.dt_model.specs.Shape.{dims, IsShape};
 
-use dt_base::NoMemory;
 use dt_model::Shape;
 use dt_place::Placement;
-use dt_tensor::{DenseLevels, Tensor};
-use std::alloc::Global;
+use dt_tensor::{Tensor, TensorLevels};
 use std::marker::Model;
 
-/// A tensor with dense levels, its numbers where a line gives them, and its placement where a line says it.
+/// A tensor, whether a line has given its numbers, and its placement where a line says it.
 #[derive(Debug, Drop)]
 pub struct Declared {
-    shape: Shape,
-    values: Option<Vec<u64>>,
+    tensor: Tensor,
+    given: bool,
     placement: Option<Placement>,
 }
 
 impl Model for Declared {
-    ghost use Rattle.std.specs.Prelude.{◌≡◌, ◌≤◌, length, IfSome, option_map};
-    ghost use Rattle.dt_base.specs.Rows.{product};
-    ghost use Rattle.dt_model.specs.Shape.{dims, IsShape};
     ghost use Rattle.dt_job.specs.Contents.{Content};
+    ghost use Rattle.dt_job.specs.JobTensors.{IsJobTensor};
 
     ghost Value = { Content };
 
-    ghost view = { λ d. record { extents = dims d.shape; values = option_map (λ v. v.items) d.values; placement = d.placement } };
+    ghost view = { λ d. record { packed = d.tensor; given = d.given; placement = d.placement } };
 
-    ghost invariant = { λ d. IsShape d.shape × (product (dims d.shape) ≤ 1048576) × IfSome d.values (λ v. length v.items ≡ product (dims d.shape)) };
+    ghost invariant = { λ d. IsJobTensor d.tensor };
 }
 
 impl Declared {
-    ghost use Rattle.std.specs.Prelude.{◌≡◌, ◌≤◌, IfOk, None, Some, is_some, length};
-    ghost use Rattle.dt_base.specs.Rows.{product};
+    ghost use Rattle.std.specs.Prelude.{◌≡◌, ◌≤◌, None, Some, false, is_some, length, true};
     ghost use Rattle.dt_model.specs.Shape.{dims, IsShape};
-    ghost use Rattle.dt_tensor.specs.Packed.{dense_levels};
-    ghost use Rattle.dt_job.specs.Contents.{placement_of, tensor_of};
-    ghost use Rattle.dt_job.specs.Jobs.{IsJobTensor};
+    ghost use Rattle.dt_tensor.specs.Packed.{packed_with, stored_of};
+    ghost use Rattle.dt_job.specs.Contents.{has_dense_levels, placement_of};
+    ghost use Rattle.dt_job.specs.JobTensors.{IsJobTensor};
 
-    /// A tensor without numbers that no line places.
-    pub fn new(shape: Shape) -> Declared
-        requires shape { IsShape shape }
-        requires few { product (dims shape) ≤ 1048576 }
-        ensures { result ≡ record { extents = dims shape; values = None; placement = None } }
+    /// A tensor whose numbers no line has given, and that no line places.
+    pub fn new(tensor: Tensor) -> Declared
+        requires { IsJobTensor tensor }
+        ensures { result ≡ record { packed = tensor; given = false; placement = None } }
     {
         Declared {
-            shape,
-            values: None,
+            tensor,
+            given: false,
             placement: None,
         }
     }
 
-    /// Takes these numbers, in row-major order.
+    /// Takes these numbers, in order of position.
     pub fn give(&mut self, values: Vec<u64>)
-        requires { length values.items ≡ product self.old.extents }
-        ensures { self.new ≡ record self.old { values = Some values.items } }
+        requires { length values.items ≡ length self.old.packed.coords }
+        ensures { self.new ≡ record self.old { packed = packed_with (stored_of self.old.packed) values.items; given = true } }
     {
-        self.values = Some(values);
+        self.tensor = Tensor::dense(self.tensor.shape(), values);
+        self.given = true;
     }
 
     /// Takes this placement.
@@ -70,23 +64,30 @@ impl Declared {
 
     pub fn shape(&self) -> Shape
         ensures lawful { IsShape result }
-        ensures dims { dims result ≡ self.now.extents }
+        ensures dims { dims result ≡ self.now.packed.extents }
     {
-        self.shape
+        self.tensor.shape()
     }
 
     /// Where its words lie.
-    pub fn levels(&self) -> DenseLevels
-        ensures { result ≡ dense_levels self.now.extents }
+    pub fn levels(&self) -> &TensorLevels
+        ensures { result.now ≡ stored_of self.now.packed }
     {
-        DenseLevels::new(self.shape)
+        self.tensor.levels()
+    }
+
+    /// Whether each of its levels is dense: a position costs a word more for each that is not.
+    pub fn is_dense(&self) -> bool
+        ensures { result ≡ has_dense_levels self.now.packed }
+    {
+        self.tensor.levels().cost() == 1
     }
 
     /// Whether a line has given its numbers.
     pub fn is_given(&self) -> bool
-        ensures { result ≡ is_some self.now.values }
+        ensures { result ≡ self.now.given }
     {
-        self.values.is_some()
+        self.given
     }
 
     /// Whether a line has placed it.
@@ -98,34 +99,29 @@ impl Declared {
 
     /// How many dimensions it has.
     pub fn order(&self) -> u8
-        ensures { result ≡ length self.now.extents }
+        ensures { result ≡ length self.now.packed.extents }
     {
-        self.shape.order
+        self.tensor.shape().order
     }
 
     /// How many positions it has.
     pub fn position_count(&self) -> u32
-        ensures { result ≡ product self.now.extents }
+        ensures { result ≡ length self.now.packed.coords }
     {
-        self.shape.count()
+        self.tensor.stored()
     }
 
-    /// The tensor with its numbers, and with zeros where none are given, and its placement.
-    pub fn into_parts(self, alloc: Global) -> Result<(Tensor, Placement), NoMemory>
-        ensures tensor { IfOk result (λ parts. parts.0 ≡ tensor_of self) }
-        ensures lawful { IfOk result (λ parts. IsJobTensor parts.0) }
-        ensures placement { IfOk result (λ parts. parts.1 ≡ placement_of self) }
+    /// The tensor, and its placement.
+    pub fn into_parts(self) -> (Tensor, Placement)
+        ensures tensor { result.0 ≡ self.packed }
+        ensures lawful { IsJobTensor result.0 }
+        ensures placement { result.1 ≡ placement_of self }
     {
         let Declared {
-            shape,
-            values,
+            tensor,
+            given: _,
             placement,
         } = self;
-        let values = match values {
-            Some(values) => values,
-            None => vec![in alloc; 0u64; shape.count() as usize]?,
-        };
-        let placement = placement.unwrap_or(Placement::FirstNode);
-        Ok((Tensor::dense(shape, values), placement))
+        (tensor, placement.unwrap_or(Placement::FirstNode))
     }
 }

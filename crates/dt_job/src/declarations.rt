@@ -12,7 +12,7 @@ use dt_base::{Coords, Name, Names, NoMemory};
 use dt_index::Lookup;
 use dt_model::{Locator, Shape};
 use dt_place::Placement;
-use dt_tensor::DenseLevels;
+use dt_tensor::{Tensor, TensorLevels};
 use indexmap::IndexMap;
 use std::alloc::Global;
 use std::marker::Model;
@@ -37,14 +37,13 @@ impl Model for Declarations {
 }
 
 impl Declarations {
-    ghost use Rattle.std.specs.Prelude.{◌≡◌, ◌≤◌, ◌<◌, ◌∷◌, ◌++◌, [], length, IfSome, None, OnOk, OnErr, slice_get, Some, option_map};
+    ghost use Rattle.std.specs.Prelude.{◌≡◌, ◌≤◌, ◌<◌, ◌∷◌, ◌++◌, [], length, IfSome, None, OnOk, OnErr, slice_get, Some, false, option_map};
     ghost use Rattle.std.specs.List.{IsDistinct};
     ghost use Rattle.std.specs.Str.{bytes_eq};
-    ghost use Rattle.dt_base.specs.Rows.{product};
     ghost use Rattle.dt_model.specs.Positions.{tensor_at};
-    ghost use Rattle.dt_model.specs.Shape.{dims, IsShape};
     ghost use Rattle.dt_index.specs.Known.{place_of};
     ghost use Rattle.dt_job.specs.Contents.{is_given, is_placed, known_of, names_of, order_of, position_count_of, stored_of_all, with_placement, with_values};
+    ghost use Rattle.dt_job.specs.JobTensors.{IsJobTensor};
 
     pub fn new(alloc: Global) -> Declarations
         ensures { result ≡ [] }
@@ -89,9 +88,9 @@ impl Declarations {
     }
 
     /// Where the tensor's words lie.
-    fn levels(&self, at: u32) -> DenseLevels
+    fn levels(&self, at: u32) -> &TensorLevels
         requires { at < length self.now }
-        ensures { result ≡ tensor_at (stored_of_all self.now) at }
+        ensures { result.now ≡ tensor_at (stored_of_all self.now) at }
     {
         self.tensor(at).levels()
     }
@@ -128,13 +127,12 @@ impl Declarations {
         self.tensor(at).position_count()
     }
 
-    /// One more tensor, without numbers, which no line places.
-    pub fn add(&mut self, name: Name, shape: Shape) -> Result<(), NoMemory>
+    /// One more tensor, whose numbers no line has given and which no line places.
+    pub fn add(&mut self, name: Name, tensor: Tensor) -> Result<(), NoMemory>
         requires new { place_of name (known_of self.old) ≡ None }
         requires few { length self.old < 32 }
-        requires shape { IsShape shape }
-        requires stored { product (dims shape) ≤ 1048576 }
-        ensures ok { OnOk result (self.new ≡ self.old ++ (name, record { extents = dims shape; values = None; placement = None }) ∷ []) }
+        requires lawful { IsJobTensor tensor }
+        ensures ok { OnOk result (self.new ≡ self.old ++ (name, record { packed = tensor; given = false; placement = None }) ∷ []) }
         ensures differ { OnOk result (IsDistinct bytes_eq (names_of self.new)) }
         ensures err { OnErr result (self.new ≡ self.old) }
     {
@@ -142,12 +140,12 @@ impl Declarations {
             &mut self.names,
             &mut self.tensors,
             name,
-            Declared::new(shape),
+            Declared::new(tensor),
         )?;
         Ok(())
     }
 
-    /// The numbers of a tensor, in row-major order.
+    /// The numbers of a tensor, in order of position.
     pub fn give(&mut self, at: u32, values: Vec<u64>)
         requires tensor { at < length self.old }
         requires count { length values.items ≡ position_count_of self.old at }
@@ -207,8 +205,8 @@ impl Lookup for Declarations {
         self.tensor(tensor).shape()
     }
 
-    fn dense(&self, _tensor: u32) -> bool {
-        true
+    fn dense(&self, tensor: u32) -> bool {
+        self.tensor(tensor).is_dense()
     }
 }
 

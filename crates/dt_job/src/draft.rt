@@ -7,9 +7,9 @@ use crate::outputs::{Show, Shows};
 use crate::phases::Phase;
 use crate::scheduled::{Scheduled, separated};
 use dt_base::{Name, NoMemory};
-use dt_model::{Cause, Shape};
+use dt_model::Cause;
 use dt_place::{Machine, Placement, Places};
-use dt_tensor::Tensors;
+use dt_tensor::{Tensor, Tensors};
 use std::alloc::Global;
 use std::marker::Model;
 use std::mem;
@@ -40,13 +40,12 @@ impl Model for Draft {
 
 impl Draft {
     ghost use Rattle.std.specs.Prelude.{◌≡◌, ◌≤◌, ◌<◌, ◌∷◌, ◌++◌, ◌-◌, ◌^◌, [], length, IfOk, IsSome, None, OnOk, OnErr, option_copied, Some, option_map, true, false};
-    ghost use Rattle.dt_base.specs.Rows.{product};
-    ghost use Rattle.dt_model.specs.Shape.{dims, IsShape};
     ghost use Rattle.dt_job.specs.Stops.{Says};
     ghost use Rattle.dt_index.specs.Known.{place_of};
     ghost use Rattle.dt_place.specs.Machines.{dims_of};
     ghost use Rattle.dt_job.specs.Contents.{known_of, position_count_of, with_placement, with_values};
     ghost use Rattle.dt_job.specs.Drafts.{DraftView, FitsMachine, IsDraft, IsScheduled, empty_draft, grid_of};
+    ghost use Rattle.dt_job.specs.JobTensors.{IsJobTensor};
     ghost use Rattle.dt_job.specs.Jobs.{IsJob, ShowsBelow};
     ghost use Rattle.dt_job.specs.ScheduleLine.{schedule_line};
     ghost use Rattle.dt_job.specs.Phases.{is_whole, knows_machine, open_stmt, takes_declaration, takes_distal, takes_machine, takes_output};
@@ -111,21 +110,20 @@ impl Draft {
         self.closed.len()
     }
 
-    /// One more tensor, without numbers.
-    pub fn declare(&mut self, name: Name, shape: Shape) -> Result<(), NoMemory>
+    /// One more tensor, whose numbers no line has given.
+    pub fn declare(&mut self, name: Name, tensor: Tensor) -> Result<(), NoMemory>
         requires new { place_of name (known_of self.old.tensors) ≡ None }
         requires early { takes_declaration self.old.phase ≡ true }
         requires few { length self.old.tensors < 32 }
-        requires shape { IsShape shape }
-        requires stored { product (dims shape) ≤ 1048576 }
-        ensures ok { OnOk result (self.new ≡ record self.old { tensors = self.old.tensors ++ (name, record { extents = dims shape; values = None; placement = None }) ∷ [] }) }
+        requires lawful { IsJobTensor tensor }
+        ensures ok { OnOk result (self.new ≡ record self.old { tensors = self.old.tensors ++ (name, record { packed = tensor; given = false; placement = None }) ∷ [] }) }
         ensures err { OnErr result (self.new ≡ self.old) }
     {
-        self.declared.add(name, shape)?;
+        self.declared.add(name, tensor)?;
         Ok(())
     }
 
-    /// The numbers of a tensor, in row-major order.
+    /// The numbers of a tensor, in order of position.
     pub fn give(&mut self, at: u32, values: Vec<u64>)
         requires early { takes_declaration self.old.phase ≡ true }
         requires tensor { at < length self.old.tensors }
@@ -214,7 +212,7 @@ impl Draft {
         let mut tensors = Vec::new(alloc);
         let mut places = Vec::new(alloc);
         for (_name, declared) in declared {
-            let (tensor, placement) = declared.into_parts(alloc)?;
+            let (tensor, placement) = declared.into_parts();
             tensors.push(tensor)?;
             places.push(placement)?;
         }

@@ -9,10 +9,11 @@ ghost use Rattle.dt_job.specs.FillLine.{fill_line, fill_of, filled_in};
 use crate::data_line::ungiven_number;
 use crate::draft::Draft;
 use crate::fills::Fill;
+use crate::given_words::read_given_words;
 use crate::line_stop::LineStop;
 use crate::numerals::read_numeral;
 use dt_model::Cause;
-use dt_text::{Token, is_name, word};
+use dt_text::{Token, word};
 use std::alloc::Global;
 
 /// `fill NAME ramp` or `fill NAME seed N`
@@ -26,20 +27,9 @@ pub fn read_fill(
     requires { All (IsToken (length text.now)) tokens.now }
     ensures { Says (λ _. draft.new) result (fill_line draft.old (map (token_in text.now) tokens.now)) }
 {
-    if !draft.phase().takes_declaration() {
-        return Err(LineStop::Refused(Cause::OutOfPlace));
-    }
-    match tokens {
-        [] => Err(LineStop::Refused(Cause::Syntax)),
-        [name, kind @ ..] => {
-            let name = word(text, *name);
-            if !is_name(name) {
-                return Err(LineStop::Refused(Cause::Syntax));
-            }
-            let fill = read_kind(text, kind)?;
-            give_fill(alloc, draft, name, fill)
-        }
-    }
+    let given = read_given_words(draft, text, tokens)?;
+    let fill = read_kind(text, given.behind)?;
+    give_fill(alloc, draft, given.name, fill)
 }
 
 /// `ramp` or `seed N`

@@ -1,4 +1,4 @@
-//! A job from its text: the lines, from first to last, and the first one that has a cause.
+//! In: the bytes of a job. Out: the job, or the first line that has a cause, with its first cause. Proved by `read_job`.
 #![tactic(auto)]
 
 mod data_line;
@@ -9,6 +9,7 @@ mod draft;
 mod end_line;
 mod fill_line;
 mod fills;
+mod given_words;
 mod job;
 mod keys;
 mod line_stop;
@@ -20,14 +21,10 @@ mod phases;
 mod place_line;
 mod print_line;
 mod reading;
-#[cfg(test)]
-mod schedule_tests;
 mod scheduled;
 mod shapes;
 mod stmt_line;
 mod tensor_line;
-#[cfg(test)]
-mod tests;
 
 pub use dt_plan::{Part, Parts};
 pub use job::Job;

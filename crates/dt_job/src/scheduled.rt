@@ -46,6 +46,7 @@ impl Scheduled {
     ghost use Rattle.dt_index.specs.Printed.{stmt_text};
     ghost use Rattle.dt_nest.specs.Chain.{stmt_schedule, IsSchedulable, MeansStmt};
     ghost use Rattle.dt_schedule.specs.Commands.{command_line};
+    ghost use Rattle.dt_job.specs.Contents.{stored_of_all};
     ghost use Rattle.dt_job.specs.Drafts.{IsScheduled, part_of};
 
     /// A statement with the schedule that it starts with, by the names of its variables and of the tensors.
@@ -78,7 +79,7 @@ impl Scheduled {
     ) -> Result<(), LineStop>
         requires line { length text.now < 2 ^ 32 - 1 }
         requires lawful { IsScheduled grid.now declared.now self.old }
-        ensures answers { Says (λ _. self.new.sched) result (command_line self.old.sched grid.now (tokens_of text.now)) }
+        ensures answers { Says (λ _. self.new.sched) result (command_line self.old.sched grid.now (stored_of_all declared.now) (tokens_of text.now)) }
         ensures others { self.new ≡ record self.old { sched = self.new.sched } }
         ensures err { OnErr result (self.new ≡ self.old) }
         ensures lawful { IsScheduled grid.now declared.now self.new }

@@ -1,21 +1,24 @@
 //! A line `tensor`.
 
-ghost use Rattle.std.specs.Prelude.{◌≡◌, ◌≤◌, ◌<◌, ◌^◌, ◌-◌, ◌&&◌, All, length, map, true};
+ghost use Rattle.std.specs.Prelude.{◌≡◌, ◌≤◌, ◌<◌, ◌^◌, ◌-◌, ◌&&◌, All, IfOk, false, length, map, replicate, true};
 ghost use Rattle.std.specs.Bool.{OnTrue};
 ghost use Rattle.std.specs.List.{list_all};
+ghost use Rattle.dt_model.specs.Shape.{dims, IsShape};
 ghost use Rattle.dt_text.specs.Names.{is_name};
 ghost use Rattle.dt_text.specs.Numbers.{is_numeral};
 ghost use Rattle.dt_text.specs.Spans.{IsToken, token_in};
 ghost use Rattle.dt_job.specs.Stops.{Says};
 ghost use Rattle.dt_job.specs.Phases.{takes_declaration};
-ghost use Rattle.dt_job.specs.TensorLine.{declared_in, tensor_line};
+ghost use Rattle.dt_job.specs.JobTensors.{IsJobTensor};
+ghost use Rattle.dt_job.specs.TensorLine.{declared_in, tensor_line, zeros_of};
 
 use crate::draft::Draft;
 use crate::line_stop::LineStop;
 use crate::numerals::read_numbers;
 use crate::shapes::{are_dense_letters, extent_words, level_words, shape_of};
 use dt_base::Name;
-use dt_model::Cause;
+use dt_model::{Cause, Shape};
+use dt_tensor::{Entries, Tensor, pack};
 use dt_text::{Token, are_all_numerals, is_name, word};
 use std::alloc::Global;
 
@@ -43,7 +46,7 @@ pub fn read_tensor(
                 return Err(LineStop::Refused(Cause::Syntax));
             }
             let extents = read_numbers(alloc, shape, words.as_slice())?;
-            declare(draft, name, extents.as_slice(), extents.len())
+            declare(alloc, draft, name, extents.as_slice(), extents.len())
         }
         [name, shape, format] => {
             let name = word(text, *name);
@@ -57,7 +60,13 @@ pub fn read_tensor(
                 return Err(LineStop::Refused(Cause::Syntax));
             }
             let extents = read_numbers(alloc, shape, words.as_slice())?;
-            declare(draft, name, extents.as_slice(), letters.as_slice().len())
+            declare(
+                alloc,
+                draft,
+                name,
+                extents.as_slice(),
+                letters.as_slice().len(),
+            )
         }
         _ => Err(LineStop::Refused(Cause::Syntax)),
     }
@@ -74,7 +83,13 @@ fn names_extents(name: &[u8], shape: &[u8], words: &[Token]) -> bool
 
 /// A tensor with this name, these extents, and this many level letters.
 #[tactic(auto, unfolding(crate::specs::TensorLine::declared_in))]
-fn declare(draft: &mut Draft, name: &[u8], extents: &[u64], letters: usize) -> Result<(), LineStop>
+fn declare(
+    alloc: Global,
+    draft: &mut Draft,
+    name: &[u8],
+    extents: &[u64],
+    letters: usize,
+) -> Result<(), LineStop>
     requires early { takes_declaration draft.old.phase ≡ true }
     requires short { length name.now ≤ 16 }
     ensures { Says (λ _. draft.new) result (declared_in draft.old name.now extents.now letters) }
@@ -91,9 +106,19 @@ fn declare(draft: &mut Draft, name: &[u8], extents: &[u64], letters: usize) -> R
     if letters != extents.len() {
         return Err(LineStop::Refused(Cause::BadFormat));
     }
-    if shape.count() > 1_048_576 {
-        return Err(LineStop::Refused(Cause::TooManyStored));
-    }
-    draft.declare(Name::from_slice(name), shape)?;
+    let tensor = zeros(alloc, shape)?;
+    draft.declare(Name::from_slice(name), tensor)?;
     Ok(())
+}
+
+/// The tensor of this shape with dense levels and the number 0 at each position.
+fn zeros(alloc: Global, shape: Shape) -> Result<Tensor, LineStop>
+    requires { IsShape shape }
+    ensures tensor { Says (λ t. t) result (zeros_of (dims shape) (replicate (length (dims shape)) false)) }
+    ensures lawful { IfOk result (λ t. IsJobTensor t) }
+{
+    match pack(alloc, shape, [false; 4], &Entries::new(alloc)) {
+        Ok(tensor) => Ok(tensor),
+        Err(end) => Err(LineStop::from(end)),
+    }
 }

@@ -60,7 +60,7 @@ impl Lookup for Tensors {
     }
 }
 
-pub fn zeros(alloc: Global, a_is_dense: bool) -> Result<Tensors, Fail> {
+pub(crate) fn zeros(alloc: Global, a_is_dense: bool) -> Result<Tensors, Fail> {
     Ok(Tensors {
         a: zero(alloc, &[2, 4])?,
         b: zero(alloc, &[2, 3])?,
@@ -78,7 +78,7 @@ fn zero(alloc: Global, extents: &[u32]) -> Result<Whole, Fail> {
 }
 
 /// Their names.
-pub fn names(alloc: Global) -> Result<Names, Fail> {
+pub(crate) fn names(alloc: Global) -> Result<Names, Fail> {
     let mut names = Names::new(alloc);
     let all: [&[u8]; 6] = [b"A", b"B", b"C", b"s", b"E", b"b2"];
     for name in all {
@@ -91,7 +91,7 @@ pub fn names(alloc: Global) -> Result<Names, Fail> {
 }
 
 /// Their numbers: 0 in A, 1 to 6 in B, 1 to 12 in C, 7 in s, 9 in E and 2 in b2.
-pub fn numbers(alloc: Global) -> Result<Vec<Whole>, Fail> {
+pub(crate) fn numbers(alloc: Global) -> Result<Vec<Whole>, Fail> {
     let numbers: [(&[u32], &[u64]); 6] = [
         (&[2, 4], &[0, 0, 0, 0, 0, 0, 0, 0]),
         (&[2, 3], &[1, 2, 3, 4, 5, 6]),
@@ -116,7 +116,7 @@ fn whole(alloc: Global, extents: &[u32], values: &[u64]) -> Result<Whole, Fail> 
 }
 
 /// What a line was refused for, and `ok` where it was not.
-pub fn said(end: Option<LineEnd>) -> ShortText {
+pub(crate) fn said(end: Option<LineEnd>) -> ShortText {
     let mut text = ShortText::new();
     match end {
         None => text.append(b"ok"),

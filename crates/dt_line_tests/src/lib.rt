@@ -1,5 +1,5 @@
-//! Tests of what the lines of a job say: tokens and numbers, shapes, statements, machine and place lines, and the texts of
-//! causes. They need public calls alone.
+//! Tests of what the lines of a job say: tokens and numbers, shapes, entries packed by levels, statements, machine and place
+//! lines, and the texts of causes. They need public calls alone.
 #![tactic(auto)]
 
 #[cfg(test)]
@@ -11,8 +11,12 @@ mod grid_lines;
 #[cfg(test)]
 mod grids;
 #[cfg(test)]
+mod orders;
+#[cfg(test)]
 mod shapes;
 #[cfg(test)]
 mod statements;
+#[cfg(test)]
+mod tensors;
 #[cfg(test)]
 mod texts;

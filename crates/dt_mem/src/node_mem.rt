@@ -5,13 +5,16 @@ use crate::rooms::{BufSpec, Room, find};
 use dt_base::NoMemory;
 use dt_runs::Runs;
 use std::alloc::Global;
+use std::cell::Cell;
 use std::marker::Model;
 
-/// The buffers of one node, by number, and the values of the words that they have. All of it is reserved when it is made.
+/// The buffers of one node, by number, and the values of the words that they have. All of it is reserved when it is made. For
+/// each buffer the interval is kept that had the last word, so a buffer that is walked is not searched.
 #[derive(Debug, Drop)]
 pub struct NodeMem<'p> {
     rooms: Vec<Room<'p>>,
     values: Vec<u64>,
+    nears: Vec<Cell<u32>>,
     live: u64,
     sum: u64,
 }
@@ -39,6 +42,7 @@ impl<'p> NodeMem<'p> {
         ensures { IfOk result (λ mem. mem ≡ map slot_of specs.now) }
     {
         let mut rooms = Vec::new(alloc);
+        let mut nears = Vec::with_capacity(alloc, specs.len())?;
         let mut total: usize = 0;
         for spec in specs {
             rooms.push(Room {
@@ -47,6 +51,7 @@ impl<'p> NodeMem<'p> {
                 cost: spec.cost,
                 words: None,
             })?;
+            nears.push(Cell::new(0))?;
             total = match total.checked_add(spec.words as usize) {
                 Some(total) => total,
                 None => return Err(NoMemory),
@@ -56,6 +61,7 @@ impl<'p> NodeMem<'p> {
         Ok(NodeMem {
             rooms,
             values,
+            nears,
             live: 0,
             sum: 0,
         })
@@ -102,7 +108,7 @@ impl<'p> NodeMem<'p> {
         requires exists { buf < length self.now }
         ensures { result ≡ is_some (value_at self.now buf pos) }
     {
-        find(self.rooms.as_slice(), buf, pos).is_some()
+        find(self.rooms.as_slice(), self.nears.as_slice(), buf, pos).is_some()
     }
 
     /// The value of a word.
@@ -111,7 +117,7 @@ impl<'p> NodeMem<'p> {
         requires held { is_some (value_at self.now buf pos) ≡ true }
         ensures { value_at self.now buf pos ≡ Some result }
     {
-        let place = find(self.rooms.as_slice(), buf, pos).unwrap();
+        let place = find(self.rooms.as_slice(), self.nears.as_slice(), buf, pos).unwrap();
         self.values[place]
     }
 
@@ -121,7 +127,7 @@ impl<'p> NodeMem<'p> {
         requires held { is_some (value_at self.old buf pos) ≡ true }
         ensures { self.new ≡ changed (written pos value) buf self.old }
     {
-        let place = find(self.rooms.as_slice(), buf, pos).unwrap();
+        let place = find(self.rooms.as_slice(), self.nears.as_slice(), buf, pos).unwrap();
         let old = self.values[place];
         self.sum = replaced(self.sum, old, value);
         self.values[place] = value;
@@ -133,7 +139,7 @@ impl<'p> NodeMem<'p> {
         requires held { is_some (value_at self.old buf pos) ≡ true }
         ensures { self.new ≡ changed (folded pos amount) buf self.old }
     {
-        let place = find(self.rooms.as_slice(), buf, pos).unwrap();
+        let place = find(self.rooms.as_slice(), self.nears.as_slice(), buf, pos).unwrap();
         let old = self.values[place];
         self.sum = self.sum.wrapping_add(amount);
         self.values[place] = old.wrapping_add(amount);

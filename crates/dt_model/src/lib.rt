@@ -1,5 +1,5 @@
-//! What a statement in index notation means: tensors, statements, the number that a statement gives at an
-//! index; and the causes for which a job is refused.
+//! What a statement in index notation means. In: shapes, tensors as lists of numbers, statements. Out: the number that a
+//! statement gives at an index, by `value_at`; and the causes of refusals with their texts, by `Cause::text`.
 #![tactic(auto)]
 
 mod cause;

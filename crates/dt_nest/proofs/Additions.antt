@@ -23,7 +23,7 @@ use Rattle.dt_nest.specs.Sums.{sum_below}
 use Rattle.dt_nest.proofs.SumLaws.{sum_below_same, sum_below_zero}
 use Rattle.dt_nest.specs.Meaning.{World, Env, Entries, bind, val_of, with_work, terms_of, guards_hold, leaf_of, takes, renamed, under, nest_sum}
 use Rattle.dt_nest.specs.Lawful.{Loops, also, Follows, AllFollow, IsSubstituted, HaveKernels, nodes_with}
-use Rattle.dt_nest.specs.Visits.{Scope, entered, in_producer, Item, IsVisit, value_in, tests_of, with_reset, lane_visit, is_valid, valid_values, substituted_visits, tree_visits}
+use Rattle.dt_nest.specs.Visits.{Scope, entered, in_producer, Item, IsVisit, value_in, tests_of, with_reset, lane_visit, is_valid, valid_values, substituted_visits, tree_visits, leaf_node}
 use Rattle.dt_nest.specs.Odometer.{HaveSlots}
 use Rattle.dt_nest.specs.Effects.{with_more, effect_of, entries_after}
 use Rattle.dt_nest.specs.Outputs.{output_of, WritesWorks}
@@ -157,7 +157,7 @@ module _ (w : World) (ds : List Derived) where
 
       -- the sum of a substituted loop, whose left side has one index for all its values
       kernel_sum : (around : Loops) → v < length slots → around v ≡ false → AllByRecursion (λ u. Follows ds around (renamed scope.pairs) (renamed scope.pairs u)) lhs.vars → (c : List ℕ)
-          → (if bytes_eq (map (value_in w ds scope.pairs slots) lhs.vars) c then sum_by (λ i. terms_of x (value_in w ds scope.pairs (slice_set slots v i)) terms) (valid_values (tests_of w ds) walk v n guards scope.pairs slots) else 0)
+          → (if bytes_eq (map (value_in w ds scope.pairs slots) lhs.vars) c then sum_by (λ i. terms_of x (value_in w ds scope.pairs (slice_set slots v i)) terms) (valid_values (tests_of w ds) walk v n (leaf_node lhs terms guards kernel) scope.pairs slots) else 0)
           ≡ sum_below n (λ i. if takes w walk v (renamed scope.pairs) (val_of w ds (renamed scope.pairs) (bind (slice_index slots) v i)) then leaf_of w x (val_of w ds (renamed scope.pairs) (bind (slice_index slots) v i)) lhs terms guards c else 0)
       kernel_sum around l a f c =
           whole (bytes_eq (map (value_in w ds scope.pairs slots) lhs.vars) c)
@@ -187,10 +187,10 @@ module _ (w : World) (ds : List Derived) where
           none true false b d e = refl
           none false g b d e = refl
 
-          whole : (b : Bool) → (if b then sum_by (λ i. terms_of x (value_in w ds scope.pairs (slice_set slots v i)) terms) (valid_values (tests_of w ds) walk v n guards scope.pairs slots) else 0)
+          whole : (b : Bool) → (if b then sum_by (λ i. terms_of x (value_in w ds scope.pairs (slice_set slots v i)) terms) (valid_values (tests_of w ds) walk v n (leaf_node lhs terms guards kernel) scope.pairs slots) else 0)
               ≡ sum_below n (λ i. if takes w walk v (renamed scope.pairs) (value_in w ds scope.pairs (slice_set slots v i)) then (if guards_hold w (value_in w ds scope.pairs (slice_set slots v i)) guards && b then terms_of x (value_in w ds scope.pairs (slice_set slots v i)) terms else 0) else 0)
           whole true =
-              sym (sum_below-filter (is_valid (tests_of w ds) walk v guards scope.pairs slots) (λ i. terms_of x (value_in w ds scope.pairs (slice_set slots v i)) terms) n)
+              sym (sum_below-filter (is_valid (tests_of w ds) walk v (leaf_node lhs terms guards kernel) scope.pairs slots) (λ i. terms_of x (value_in w ds scope.pairs (slice_set slots v i)) terms) n)
               ∙ sum_below_same n _ _ (λ i k. cases (takes w walk v (renamed scope.pairs) (value_in w ds scope.pairs (slice_set slots v i))) (guards_hold w (value_in w ds scope.pairs (slice_set slots v i)) guards) true (terms_of x (value_in w ds scope.pairs (slice_set slots v i)) terms) refl)
           whole false = sym (sum_below_zero n _ (λ i k. none (takes w walk v (renamed scope.pairs) (value_in w ds scope.pairs (slice_set slots v i))) (guards_hold w (value_in w ds scope.pairs (slice_set slots v i)) guards) false (terms_of x (value_in w ds scope.pairs (slice_set slots v i)) terms) refl))
 
@@ -205,9 +205,9 @@ module _ (w : World) (ds : List Derived) where
   kernel_adds walk v n (Pre work more p q) around scope slots x k l a i = absurd (cc)
   kernel_adds walk v n (Leaf lhs terms guards Plain) around scope slots x k l a i = absurd (cc)
   kernel_adds walk v n (Leaf lhs terms guards Dot) around scope slots x k l a i =
-      adds_same (Leaf lhs terms guards Dot) _ _ x _ (λ c. kernel_sum lhs terms guards Dot walk v n scope slots x around l a i.1 c) (lane_adds lhs terms guards Dot walk v n scope slots x (valid_values (tests_of w ds) walk v n guards scope.pairs slots))
+      adds_same (Leaf lhs terms guards Dot) _ _ x _ (λ c. kernel_sum lhs terms guards Dot walk v n scope slots x around l a i.1 c) (lane_adds lhs terms guards Dot walk v n scope slots x (valid_values (tests_of w ds) walk v n (leaf_node lhs terms guards Dot) scope.pairs slots))
   kernel_adds walk v n (Leaf lhs terms guards Dot3) around scope slots x k l a i =
-      adds_same (Leaf lhs terms guards Dot3) _ _ x _ (λ c. kernel_sum lhs terms guards Dot3 walk v n scope slots x around l a i.1 c) (lane_adds lhs terms guards Dot3 walk v n scope slots x (valid_values (tests_of w ds) walk v n guards scope.pairs slots))
+      adds_same (Leaf lhs terms guards Dot3) _ _ x _ (λ c. kernel_sum lhs terms guards Dot3 walk v n scope slots x around l a i.1 c) (lane_adds lhs terms guards Dot3 walk v n scope slots x (valid_values (tests_of w ds) walk v n (leaf_node lhs terms guards Dot3) scope.pairs slots))
 
   -- Loops --------------------------------------------------------------------------------------------------------------
 

@@ -6,8 +6,8 @@ use Rattle.dt_nest.specs.declared.loops.Walk.{Walk}
 use Rattle.dt_nest.specs.declared.loops.Pair.{Pair}
 use Rattle.dt_nest.specs.Tree.{Tree, Loop, Pre, Leaf, leaf_count, is_kernel_leaf}
 use Rattle.dt_nest.proofs.Each.{all_append, all_flat_map}
-use Rattle.dt_nest.specs.Visits.{LeafNode, Lanes, Scope, entered, in_producer, Item, IsVisit, Tests, with_reset, values_on, lane_visit, is_valid, valid_values, substituted_visits, tree_visits}
-use Rattle.dt_nest.specs.Odometer.{leaf_item, guards_of, item_at, pairs_at}
+use Rattle.dt_nest.specs.Visits.{LeafNode, Lanes, Scope, entered, in_producer, Item, IsVisit, Tests, with_reset, values_on, lane_visit, is_valid, valid_values, substituted_visits, tree_visits, leaf_node}
+use Rattle.dt_nest.specs.Odometer.{leaf_item, node_of, item_at, pairs_at}
 use Rattle.dt_nest.specs.Branch.{node_at, loops_at, lanes_at, visit_at}
 use Rattle.dt_nest.specs.Run.{ItemHolds}
 
@@ -16,17 +16,17 @@ and_right true b e = e
 and_right false b e = absurd (cc)
 
 module _ (t : Tests) where
-  valid_hold : (walk : Option Walk) (v : ℕ) (guards : List ℕ) (pairs : List Pair) (slots xs : List ℕ) → AllByRecursion (λ x. t.holds guards pairs (slice_set slots v x) ≡ true) (filter (is_valid t walk v guards pairs slots) xs)
-  valid_hold walk v guards pairs slots [] = tt
-  valid_hold walk v guards pairs slots (x ∷ xs) =
-      go (is_valid t walk v guards pairs slots x) (and_right (t.takes walk v pairs (slice_set slots v x)) (t.holds guards pairs (slice_set slots v x))) (valid_hold walk v guards pairs slots xs)
+  valid_hold : (walk : Option Walk) (v : ℕ) (leaf : LeafNode) (pairs : List Pair) (slots xs : List ℕ) → AllByRecursion (λ x. t.holds leaf pairs (slice_set slots v x) ≡ true) (filter (is_valid t walk v leaf pairs slots) xs)
+  valid_hold walk v leaf pairs slots [] = tt
+  valid_hold walk v leaf pairs slots (x ∷ xs) =
+      go (is_valid t walk v leaf pairs slots x) (and_right (t.takes walk v pairs (slice_set slots v x)) (t.holds leaf pairs (slice_set slots v x))) (valid_hold walk v leaf pairs slots xs)
     where
-      go : (b : Bool) → (b ≡ true → t.holds guards pairs (slice_set slots v x) ≡ true) → AllByRecursion (λ x. t.holds guards pairs (slice_set slots v x) ≡ true) (filter (is_valid t walk v guards pairs slots) xs)
-          → AllByRecursion (λ x. t.holds guards pairs (slice_set slots v x) ≡ true) (if b then x ∷ filter (is_valid t walk v guards pairs slots) xs else filter (is_valid t walk v guards pairs slots) xs)
+      go : (b : Bool) → (b ≡ true → t.holds leaf pairs (slice_set slots v x) ≡ true) → AllByRecursion (λ x. t.holds leaf pairs (slice_set slots v x) ≡ true) (filter (is_valid t walk v leaf pairs slots) xs)
+          → AllByRecursion (λ x. t.holds leaf pairs (slice_set slots v x) ≡ true) (if b then x ∷ filter (is_valid t walk v leaf pairs slots) xs else filter (is_valid t walk v leaf pairs slots) xs)
       go true e r = (e refl, r)
       go false e r = r
 
-  lane_holds : (leaf : LeafNode) (scope : Scope) (slots : List ℕ) (v n : ℕ) (valid : List ℕ) → AllByRecursion (λ x. t.holds leaf.guards scope.pairs (slice_set slots v x) ≡ true) valid → AllByRecursion (ItemHolds t) (lane_visit leaf scope slots v n valid)
+  lane_holds : (leaf : LeafNode) (scope : Scope) (slots : List ℕ) (v n : ℕ) (valid : List ℕ) → AllByRecursion (λ x. t.holds leaf scope.pairs (slice_set slots v x) ≡ true) valid → AllByRecursion (ItemHolds t) (lane_visit leaf scope slots v n valid)
   lane_holds leaf scope slots v n [] h = tt
   lane_holds leaf scope slots v n (x ∷ valid) h = ((omega arith, h), tt)
 
@@ -34,7 +34,7 @@ module _ (t : Tests) where
   lanes_hold walk v n (Loop u m more inner) scope slots = tt
   lanes_hold walk v n (Pre work more p q) scope slots = tt
   lanes_hold walk v n (Leaf lhs terms guards kernel) scope slots =
-      lane_holds (record { lhs = lhs; terms = terms; guards = guards; kernel = kernel }) scope slots v n (valid_values t walk v n guards scope.pairs slots) (valid_hold walk v guards scope.pairs slots (range_with_len 0 n))
+      lane_holds (record { lhs = lhs; terms = terms; guards = guards; kernel = kernel }) scope slots v n (valid_values t walk v n (leaf_node lhs terms guards kernel) scope.pairs slots) (valid_hold walk v (leaf_node lhs terms guards kernel) scope.pairs slots (range_with_len 0 n))
 
   reset_holds : (work : ℕ) (items : List Item) → AllByRecursion (ItemHolds t) items → AllByRecursion (ItemHolds t) (with_reset work items)
   reset_holds work [] h = tt
@@ -60,9 +60,9 @@ module _ (t : Tests) where
   visits_hold (Pre work more p q) scope slots path =
       reset_holds work (tree_visits t p (in_producer scope more) slots [] ++ tree_visits t q scope slots [])
       (all_append (ItemHolds t) (tree_visits t p (in_producer scope more) slots []) (tree_visits t q scope slots []) (visits_hold p (in_producer scope more) slots []) (visits_hold q scope slots []))
-  visits_hold (Leaf lhs terms guards kernel) scope slots path = go (t.holds guards scope.pairs slots) refl
+  visits_hold (Leaf lhs terms guards kernel) scope slots path = go (t.holds (leaf_node lhs terms guards kernel) scope.pairs slots) refl
     where
-      go : (b : Bool) → t.holds guards scope.pairs slots ≡ b
+      go : (b : Bool) → t.holds (leaf_node lhs terms guards kernel) scope.pairs slots ≡ b
           → AllByRecursion (ItemHolds t) (if b then IsVisit (record { leaf = record { lhs = lhs; terms = terms; guards = guards; kernel = kernel }; around = scope.around; pairs = scope.pairs; slots = slots; lanes = None }) ∷ [] else [])
       go true e = (e, tt)
       go false e = tt
@@ -81,18 +81,18 @@ module _ (t : Tests) where
   -- the item where a run stands is the visit of its leaf
   pub item-visit : (tree : Tree) (scope : Scope) (slots : List ℕ) (leaf : ℕ) → item_at t tree scope slots leaf ≡ IsVisit (visit_at t tree scope slots leaf)
   item-visit (Loop v n walk body) scope slots leaf =
-      go (is_kernel_leaf body) (lane_item body scope slots leaf (Some (record { var = v; extent = n; valid = valid_values t walk v n (guards_of body) scope.pairs slots }))) (item-visit body (entered scope v) slots leaf)
+      go (is_kernel_leaf body) (lane_item body scope slots leaf (Some (record { var = v; extent = n; valid = valid_values t walk v n (node_of body) scope.pairs slots }))) (item-visit body (entered scope v) slots leaf)
     where
-      go : (b : Bool) → (b ≡ true → leaf_item t body scope slots (Some (record { var = v; extent = n; valid = valid_values t walk v n (guards_of body) scope.pairs slots }))
-          ≡ IsVisit (record { leaf = node_at body leaf; around = scope.around; pairs = scope.pairs ++ pairs_at body leaf; slots = slots; lanes = Some (record { var = v; extent = n; valid = valid_values t walk v n (guards_of body) scope.pairs slots }) }))
+      go : (b : Bool) → (b ≡ true → leaf_item t body scope slots (Some (record { var = v; extent = n; valid = valid_values t walk v n (node_of body) scope.pairs slots }))
+          ≡ IsVisit (record { leaf = node_at body leaf; around = scope.around; pairs = scope.pairs ++ pairs_at body leaf; slots = slots; lanes = Some (record { var = v; extent = n; valid = valid_values t walk v n (node_of body) scope.pairs slots }) }))
           → item_at t body (entered scope v) slots leaf ≡ IsVisit (visit_at t body (entered scope v) slots leaf)
-          → (if b then leaf_item t body scope slots (Some (record { var = v; extent = n; valid = valid_values t walk v n (guards_of body) scope.pairs slots })) else item_at t body (entered scope v) slots leaf)
+          → (if b then leaf_item t body scope slots (Some (record { var = v; extent = n; valid = valid_values t walk v n (node_of body) scope.pairs slots })) else item_at t body (entered scope v) slots leaf)
           ≡ IsVisit (record {
             leaf = node_at body leaf;
             around = if b then scope.around else loops_at body (v ∷ scope.around) leaf;
             pairs = scope.pairs ++ pairs_at body leaf;
             slots = slots;
-            lanes = if b then Some (record { var = v; extent = n; valid = valid_values t walk v n (guards_of body) scope.pairs slots }) else lanes_at t body scope.pairs slots leaf;
+            lanes = if b then Some (record { var = v; extent = n; valid = valid_values t walk v n (node_of body) scope.pairs slots }) else lanes_at t body scope.pairs slots leaf;
           })
       go true a r = a refl
       go false a r = r

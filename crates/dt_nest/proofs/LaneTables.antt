@@ -9,7 +9,7 @@ use Rattle.dt_nest.specs.declared.loops.Walk.{Walk}
 use Rattle.dt_nest.specs.Tree.{Tree, Loop, Pre, Leaf, leaf_count, is_kernel_leaf}
 use Rattle.dt_nest.specs.Meaning.{World, renamed}
 use Rattle.dt_nest.specs.Visits.{Tests, is_valid}
-use Rattle.dt_nest.specs.Odometer.{guards_of, pairs_at}
+use Rattle.dt_nest.specs.Odometer.{node_of, pairs_at}
 use Rattle.dt_nest.specs.Branch.{substituted_at, valid_at}
 use Rattle.dt_nest.specs.Tables.{tabled, IsLeafTable, IsTable}
 use Rattle.dt_nest.specs.Visited.{HasLaneTable}
@@ -28,21 +28,21 @@ producer_substituted work more p q leaf n l e =
 
 module _ (t : Tests) (pairs : List Pair) (slots : List ℕ) (leaf x : ℕ) (tree : Tree) (walk : Option Walk) (v n : ℕ) (body given : Tree) (e : tree ≡ Loop v n walk body) (same : given ≡ body) (k : is_kernel_leaf given ≡ true) where
   -- the tests at the substituted loop
-  valid_here : valid_at t tree pairs slots leaf x ≡ (t.takes walk v pairs (slice_set slots v x) && t.holds (guards_of given) pairs (slice_set slots v x))
+  valid_here : valid_at t tree pairs slots leaf x ≡ (t.takes walk v pairs (slice_set slots v x) && t.holds (node_of given) pairs (slice_set slots v x))
   valid_here =
       ap (λ (y : Tree). valid_at t y pairs slots leaf x) e
-      ∙ ap (λ (b : Bool). if b then is_valid t walk v (guards_of body) pairs slots x else valid_at t body pairs slots leaf x) (ap is_kernel_leaf (sym same) ∙ k)
-      ∙ ap (λ (y : Tree). t.takes walk v pairs (slice_set slots v x) && t.holds (guards_of y) pairs (slice_set slots v x)) (sym same)
+      ∙ ap (λ (b : Bool). if b then is_valid t walk v (node_of body) pairs slots x else valid_at t body pairs slots leaf x) (ap is_kernel_leaf (sym same) ∙ k)
+      ∙ ap (λ (y : Tree). t.takes walk v pairs (slice_set slots v x) && t.holds (node_of y) pairs (slice_set slots v x)) (sym same)
 
   -- a value that the loop takes is valid where the guards hold
-  pub valid_taken : (again : Tree) → again ≡ body → (a b : Bool) → a ≡ t.takes walk v pairs (slice_set slots v x) → a ≡ true → b ≡ t.holds (guards_of again) pairs (slice_set slots v x) → b ≡ valid_at t tree pairs slots leaf x
+  pub valid_taken : (again : Tree) → again ≡ body → (a b : Bool) → a ≡ t.takes walk v pairs (slice_set slots v x) → a ≡ true → b ≡ t.holds (node_of again) pairs (slice_set slots v x) → b ≡ valid_at t tree pairs slots leaf x
   valid_taken again r a b f y h =
-      h ∙ ap (λ (y : Tree). t.holds (guards_of y) pairs (slice_set slots v x)) (r ∙ sym same)
-      ∙ sym (valid_here ∙ ap (λ (c : Bool). c && t.holds (guards_of given) pairs (slice_set slots v x)) (sym f ∙ y))
+      h ∙ ap (λ (y : Tree). t.holds (node_of y) pairs (slice_set slots v x)) (r ∙ sym same)
+      ∙ sym (valid_here ∙ ap (λ (c : Bool). c && t.holds (node_of given) pairs (slice_set slots v x)) (sym f ∙ y))
 
   -- any other is not
   pub valid_refused : (a : Bool) → a ≡ t.takes walk v pairs (slice_set slots v x) → a ≡ false → a ≡ valid_at t tree pairs slots leaf x
-  valid_refused a f y = y ∙ sym (valid_here ∙ ap (λ (c : Bool). c && t.holds (guards_of given) pairs (slice_set slots v x)) (sym f ∙ y))
+  valid_refused a f y = y ∙ sym (valid_here ∙ ap (λ (c : Bool). c && t.holds (node_of given) pairs (slice_set slots v x)) (sym f ∙ y))
 
 module _ (w : World) (ds : List Derived) (slots : List ℕ) (x : ℕ) where
   -- at the substituted loop

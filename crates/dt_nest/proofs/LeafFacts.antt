@@ -19,8 +19,8 @@ use Rattle.dt_nest.proofs.LawfulFit.{FitsCoordinate}
 use Rattle.dt_nest.specs.Lawful.{is_replaced, AreLoops, IsNamed, AreNamed, AreOrdered, Loops, also, Follows, AllFollow, AreGuarded, HaveGuards, IsSubstituted, HaveKernels}
 use Rattle.dt_nest.proofs.Inside.{guard_holds, renamed_extents, variables_below}
 use Rattle.dt_nest.specs.Values.{inside_in, guard_inside, is_below, inside_tests}
-use Rattle.dt_nest.specs.Visits.{LeafNode, Lanes, Tests, value_in, is_valid, valid_values}
-use Rattle.dt_nest.specs.Odometer.{AreZero, IsAt, guards_of, pairs_at}
+use Rattle.dt_nest.specs.Visits.{LeafNode, Lanes, Tests, value_in, is_valid, valid_values, leaf_node}
+use Rattle.dt_nest.specs.Odometer.{AreZero, IsAt, node_of, pairs_at}
 use Rattle.dt_nest.proofs.Each.{all_filter}
 use Rattle.dt_nest.specs.Branch.{leaf_at, node_at, leaf_tree, loops_at, substituted_at, valid_at, lanes_at}
 use Rattle.dt_nest.specs.Run.{among, with_lane, is_among, AreAscending, GuardsHold}
@@ -108,14 +108,14 @@ pub lane_is : (t : Tests) (tree : Tree) (pairs : List Pair) (slots : List ℕ) (
 lane_is t (Loop v n walk body) pairs slots leaf = go (is_kernel_leaf body) (lane_is t body pairs slots leaf)
   where
     go : (b : Bool) → LaneIs (lanes_at t body pairs slots leaf) (substituted_at body leaf) (valid_at t body pairs slots leaf)
-        → LaneIs (if b then Some (record { var = v; extent = n; valid = valid_values t walk v n (guards_of body) pairs slots }) else lanes_at t body pairs slots leaf)
+        → LaneIs (if b then Some (record { var = v; extent = n; valid = valid_values t walk v n (node_of body) pairs slots }) else lanes_at t body pairs slots leaf)
         (if b then Some (record { var = v; extent = n }) else substituted_at body leaf)
-        (λ x. if b then is_valid t walk v (guards_of body) pairs slots x else valid_at t body pairs slots leaf x)
+        (λ x. if b then is_valid t walk v (node_of body) pairs slots x else valid_at t body pairs slots leaf x)
     go true r = (
       refl,
       refl,
-      ascending (is_valid t walk v (guards_of body) pairs slots) (range_with_len 0 n),
-      (λ x l. sym (among_filter (is_valid t walk v (guards_of body) pairs slots) x (range_with_len 0 n) (any_found (λ y. nat_eq x y) x n l (eq-eqb x x refl)))),
+      ascending (is_valid t walk v (node_of body) pairs slots) (range_with_len 0 n),
+      (λ x l. sym (among_filter (is_valid t walk v (node_of body) pairs slots) x (range_with_len 0 n) (any_found (λ y. nat_eq x y) x n l (eq-eqb x x refl)))),
     )
     go false r = r
 lane_is t (Pre work more p q) pairs slots leaf = go (nat_lt leaf (leaf_count p)) (lane_is t p (pairs ++ more) slots leaf) (lane_is t q pairs slots (leaf - leaf_count p))
@@ -234,19 +234,19 @@ module _ (s : Schedule) (ds : List Derived) (ordered : AreOrdered ds) (t : Tests
       → ((u : ℕ) → slice_index s.extents (renamed pairs u) ≡ slice_index s.extents u) → AreLoops ds tree → AreAround ds (among outer) pairs
       → LeafFacts s ds slots (among (loops_at tree outer leaf)) (pairs ++ pairs_at tree leaf) (node_at tree leaf) (lanes_at t tree pairs slots leaf)
   leaf_facts (Loop v n walk body) outer pairs slots leaf at h named a g k keep loops o =
-      go (is_kernel_leaf body) at.0 (λ e. kernel_facts v n (valid_values t walk v n (guards_of body) pairs slots) body outer pairs slots leaf e o a.1 loops.0 a.0 h below_extent a.3 g k.0 keep)
+      go (is_kernel_leaf body) at.0 (λ e. kernel_facts v n (valid_values t walk v n (node_of body) pairs slots) body outer pairs slots leaf e o a.1 loops.0 a.0 h below_extent a.3 g k.0 keep)
       (λ l. leaf_facts body (v ∷ outer) pairs slots leaf at.1 (one_more v n outer slots h named.1 l) named.3 a.3 g k.1 keep loops.1 (more_around v (among outer) pairs a.1 loops.0 o))
     where
-      below_extent : AllByRecursion (λ x. x < slice_index s.extents v) (valid_values t walk v n (guards_of body) pairs slots)
+      below_extent : AllByRecursion (λ x. x < slice_index s.extents v) (valid_values t walk v n (node_of body) pairs slots)
       below_extent =
           let m : 0 + n ≤ slice_index s.extents v = omega (arith, named.1) in
-          all_filter (λ x. x < slice_index s.extents v) (is_valid t walk v (guards_of body) pairs slots) (range_with_len 0 n) (range_below 0 n (slice_index s.extents v) m)
+          all_filter (λ x. x < slice_index s.extents v) (is_valid t walk v (node_of body) pairs slots) (range_with_len 0 n) (range_below 0 n (slice_index s.extents v) m)
 
       go : (b : Bool) → MatchBool b (slice_index slots v ≡ 0) (slice_index slots v < n)
-          → (b ≡ true → LeafFacts s ds slots (among outer) (pairs ++ pairs_at body leaf) (node_at body leaf) (Some (record { var = v; extent = n; valid = valid_values t walk v n (guards_of body) pairs slots })))
+          → (b ≡ true → LeafFacts s ds slots (among outer) (pairs ++ pairs_at body leaf) (node_at body leaf) (Some (record { var = v; extent = n; valid = valid_values t walk v n (node_of body) pairs slots })))
           → (slice_index slots v < n → LeafFacts s ds slots (among (loops_at body (v ∷ outer) leaf)) (pairs ++ pairs_at body leaf) (node_at body leaf) (lanes_at t body pairs slots leaf))
           → LeafFacts s ds slots (among (if b then outer else loops_at body (v ∷ outer) leaf)) (pairs ++ pairs_at body leaf) (node_at body leaf)
-          (if b then Some (record { var = v; extent = n; valid = valid_values t walk v n (guards_of body) pairs slots }) else lanes_at t body pairs slots leaf)
+          (if b then Some (record { var = v; extent = n; valid = valid_values t walk v n (node_of body) pairs slots }) else lanes_at t body pairs slots leaf)
       go true l f r = f refl
       go false l f r = r l
   leaf_facts (Pre work more p q) outer pairs slots leaf at h named a g k keep loops o =
@@ -294,7 +294,7 @@ module _ (stored : List StoredTensor) (s : Schedule) (each : (t : ℕ) → t < l
 
   -- where guards hold no variable is outside
   none_outside : (guards : List ℕ) (around : Loops) (values : List ℕ) → AreGuarded ds guards around (renamed pairs) → ((u : ℕ) → slice_index s.extents (renamed pairs u) ≡ slice_index s.extents u)
-      → (inside_tests (world_of stored s) ds).holds guards pairs values ≡ true → Out around values → ⊥
+      → list_all (guard_inside (world_of stored s) (inside_in (world_of stored s) ds pairs values)) guards ≡ true → Out around values → ⊥
   none_outside guards around values g keep h o =
       let a = holds_true (world_of stored s) ds pairs values guards h in
       let b = leaf_fails stored s each ds ordered guards around pairs values keep g o in
@@ -312,7 +312,7 @@ module _ (stored : List StoredTensor) (s : Schedule) (each : (t : ℕ) → t < l
     value_there None f h u o k e = value_or_out around slots u o k e (none_outside leaf.guards around slots f.guards f.keeps h)
     value_there (Some lanes) f h u o k e = value_or_out around slots u o k e (λ out. go lanes.valid h.0 h.1 out)
       where
-        go : (valid : List ℕ) → 0 < length valid → AllByRecursion (λ x. (inside_tests (world_of stored s) ds).holds leaf.guards pairs (slice_set slots lanes.var x) ≡ true) valid → Out around slots → ⊥
+        go : (valid : List ℕ) → 0 < length valid → AllByRecursion (λ x. (inside_tests (world_of stored s) ds).holds leaf pairs (slice_set slots lanes.var x) ≡ true) valid → Out around slots → ⊥
         go [] l a out = absurd (omega arith)
         go (x ∷ valid) l a out =
             none_outside leaf.guards (also around lanes.var) (slice_set slots lanes.var x) f.guards f.keeps a.0 (deeper stored s each ds ordered around pairs slots lanes.var x f.apart out)
@@ -323,12 +323,12 @@ module _ (stored : List StoredTensor) (s : Schedule) (each : (t : ℕ) → t < l
         → unwrap_or o 0 ≡ value_in (world_of stored s) ds pairs (slice_set slots lanes.var x) u
     lane_value_there lanes f h x m u o k e =
         value_or_out (also around lanes.var) (slice_set slots lanes.var x) u o k e
-        (none_outside leaf.guards (also around lanes.var) (slice_set slots lanes.var x) f.guards f.keeps (all_among (λ y. (inside_tests (world_of stored s) ds).holds leaf.guards pairs (slice_set slots lanes.var y) ≡ true) x lanes.valid h.1 m))
+        (none_outside leaf.guards (also around lanes.var) (slice_set slots lanes.var x) f.guards f.keeps (all_among (λ y. (inside_tests (world_of stored s) ds).holds leaf pairs (slice_set slots lanes.var y) ≡ true) x lanes.valid h.1 m))
 
   module _ (named : AreNamed s ds) (fits : AllByRecursion (λ d. FitsCoordinate stored s d.var d.how) ds) (around : Loops) (leaf : LeafNode) where
     -- what follows from loops that are below their extents is below its own, where guards hold
     value_below : (more : Loops) (values : List ℕ) → ((u : ℕ) → more u ≡ true → slice_index values u < slice_index s.extents u) → AreGuarded ds leaf.guards more (renamed pairs) → ((u : ℕ) → slice_index s.extents (renamed pairs u) ≡ slice_index s.extents u)
-        → (inside_tests (world_of stored s) ds).holds leaf.guards pairs values ≡ true → (u : ℕ) → Follows ds more (renamed pairs) (renamed pairs u) → value_in (world_of stored s) ds pairs values u < slice_index s.extents u
+        → (inside_tests (world_of stored s) ds).holds leaf pairs values ≡ true → (u : ℕ) → Follows ds more (renamed pairs) (renamed pairs u) → value_in (world_of stored s) ds pairs values u < slice_index s.extents u
     value_below more values inside g keep h u f =
         let e = holds_true (world_of stored s) ds pairs values leaf.guards h in
         subst (λ (n : ℕ). value_in (world_of stored s) ds pairs values u < n) (keep u)
@@ -357,7 +357,7 @@ module _ (stored : List StoredTensor) (s : Schedule) (each : (t : ℕ) → t < l
         other : (x v : ℕ) → around v ≡ true → slice_index (slice_set slots lanes.var x) v ≡ slice_index slots v
         other x v a = get_or-set_other slots lanes.var v x 0 (λ e. let b : around lanes.var ≡ true = ap around (sym e) ∙ a in let c = f.apart in absurd (cc))
 
-        go : (valid : List ℕ) → 0 < length valid → AllByRecursion (λ x. (inside_tests (world_of stored s) ds).holds leaf.guards pairs (slice_set slots lanes.var x) ≡ true) valid → AllByRecursion (λ x. x < slice_index s.extents lanes.var) valid → value_in (world_of stored s) ds pairs slots u < slice_index s.extents u
+        go : (valid : List ℕ) → 0 < length valid → AllByRecursion (λ x. (inside_tests (world_of stored s) ds).holds leaf pairs (slice_set slots lanes.var x) ≡ true) valid → AllByRecursion (λ x. x < slice_index s.extents lanes.var) valid → value_in (world_of stored s) ds pairs slots u < slice_index s.extents u
         go [] l a b = absurd (omega arith)
         go (x ∷ valid) l a b =
             subst (λ (n : ℕ). n < slice_index s.extents u) (known_agree (world_of stored s) ds around (renamed pairs) (slice_index (slice_set slots lanes.var x)) (slice_index slots) (other x) (renamed pairs u) k)
@@ -368,4 +368,4 @@ module _ (stored : List StoredTensor) (s : Schedule) (each : (t : ℕ) → t < l
         → Follows ds (also around lanes.var) (renamed pairs) (renamed pairs u) → value_in (world_of stored s) ds pairs (slice_set slots lanes.var x) u < slice_index s.extents u
     lane_below_there lanes f h x m u k =
         value_below (also around lanes.var) (slice_set slots lanes.var x) (lane_inside lanes.var x f.inside (all_among (λ y. y < slice_index s.extents lanes.var) x lanes.valid f.lane m)) f.guards f.keeps
-        (all_among (λ y. (inside_tests (world_of stored s) ds).holds leaf.guards pairs (slice_set slots lanes.var y) ≡ true) x lanes.valid h.1 m) u k
+        (all_among (λ y. (inside_tests (world_of stored s) ds).holds leaf pairs (slice_set slots lanes.var y) ≡ true) x lanes.valid h.1 m) u k

@@ -49,3 +49,4 @@ pub mod ZerosFit
 pub mod Marked
 pub mod PointTables
 pub mod Numbering
+pub mod PathFilters

@@ -8,8 +8,8 @@ use Rattle.dt_nest.specs.declared.loops.Walk.{Walk}
 use Rattle.dt_nest.specs.declared.loops.Pair.{Pair}
 use Rattle.dt_nest.specs.declared.odometer.Stand.{Stand}
 use Rattle.dt_nest.specs.Tree.{Tree, Loop, Pre, Leaf, is_kernel_leaf}
-use Rattle.dt_nest.specs.Visits.{Scope, scoped, entered, Item, IsReset, IsVisit, Tests, LeafNode, lane_visit, is_valid, valid_values, values_on, tree_visits}
-use Rattle.dt_nest.specs.Odometer.{cleared, AreZero, Lacks, HaveSlots, works_at, leaf_item, guards_of, item_at, step_of, end_on, after, IsAt, Reaches, Finds, FindsFrom, Steps}
+use Rattle.dt_nest.specs.Visits.{Scope, scoped, entered, Item, IsReset, IsVisit, Tests, LeafNode, lane_visit, is_valid, valid_values, values_on, tree_visits, leaf_node}
+use Rattle.dt_nest.specs.Odometer.{cleared, AreZero, Lacks, HaveSlots, works_at, leaf_item, node_of, item_at, step_of, end_on, after, IsAt, Reaches, Finds, FindsFrom, Steps}
 use Rattle.dt_nest.proofs.Slots.{cleared_other, zero_cleared}
 use Rattle.dt_nest.proofs.Moves.{step_base, parts, reached, later_values}
 
@@ -31,7 +31,7 @@ after_loop t walk v n body scope path slots leaf plain =
 
 pub item_loop : (t : Tests) (walk : Option Walk) (v n : ℕ) (body : Tree) (scope : Scope) (slots : List ℕ) (leaf : ℕ) → is_kernel_leaf body ≡ false → item_at t (Loop v n walk body) scope slots leaf ≡ item_at t body (entered scope v) slots leaf
 item_loop t walk v n body scope slots leaf plain =
-    ap (λ (b : Bool). if b then leaf_item t body scope slots (Some (record { var = v; extent = n; valid = valid_values t walk v n (guards_of body) scope.pairs slots })) else item_at t body (entered scope v) slots leaf) plain
+    ap (λ (b : Bool). if b then leaf_item t body scope slots (Some (record { var = v; extent = n; valid = valid_values t walk v n (node_of body) scope.pairs slots })) else item_at t body (entered scope v) slots leaf) plain
 
 -- below a loop that is not substituted, the loop's slot has its value
 pub stood_loop : (walk : Option Walk) (v n : ℕ) (body : Tree) (slots : List ℕ) (leaf : ℕ) → is_kernel_leaf body ≡ false → IsAt (Loop v n walk body) slots leaf → (slice_index slots v < n) × IsAt body slots leaf
@@ -135,20 +135,20 @@ lanes_are : (leaf : LeafNode) (scope : Scope) (slots : List ℕ) (v n y : ℕ) (
 lanes_are leaf scope slots v n y valid ys e = subst (λ (l : List ℕ). lane_visit leaf scope slots v n l ≡ IsVisit (record { leaf = leaf; around = scope.around; pairs = scope.pairs; slots = slots; lanes = Some (record { var = v; extent = n; valid = l }) }) ∷ []) (sym e) refl
 
 -- a substituted loop with a valid value has one visit
-pub lanes_found : (t : Tests) (walk : Option Walk) (v n : ℕ) (body : Tree) (pairs : List Pair) (path slots : List ℕ) → is_kernel_leaf body ≡ true → list_any (is_valid t walk v (guards_of body) pairs slots) (range_with_len 0 n) ≡ true → slice_index slots v ≡ 0
+pub lanes_found : (t : Tests) (walk : Option Walk) (v n : ℕ) (body : Tree) (pairs : List Pair) (path slots : List ℕ) → is_kernel_leaf body ≡ true → list_any (is_valid t walk v (node_of body) pairs slots) (range_with_len 0 n) ≡ true → slice_index slots v ≡ 0
     → Finds t (Loop v n walk body) pairs path slots slots (Some 0)
 lanes_found t walk v n (Loop u m more inner) pairs path slots k h z = absurd (cc)
 lanes_found t walk v n (Pre work more p q) pairs path slots k h z = absurd (cc)
 lanes_found t walk v n (Leaf lhs terms guards kernel) pairs path slots k h z =
-    let one = one_passes (is_valid t walk v guards pairs slots) (range_with_len 0 n) h in
+    let one = one_passes (is_valid t walk v (leaf_node lhs terms guards kernel) pairs slots) (range_with_len 0 n) h in
     let leaf : LeafNode = record { lhs = lhs; terms = terms; guards = guards; kernel = kernel } in
-    let item : List ℕ → Item = λ around. IsVisit (record { leaf = leaf; around = around; pairs = pairs; slots = slots; lanes = Some (record { var = v; extent = n; valid = valid_values t walk v n guards pairs slots }) }) in
+    let item : List ℕ → Item = λ around. IsVisit (record { leaf = leaf; around = around; pairs = pairs; slots = slots; lanes = Some (record { var = v; extent = n; valid = valid_values t walk v n (leaf_node lhs terms guards kernel) pairs slots }) }) in
     record {
       goes = (
         λ around. record {
           items = parts (tree_visits t (Loop v n walk (Leaf lhs terms guards kernel)) (scoped pairs around) slots path) [] [] (item around) (item_at t (Loop v n walk (Leaf lhs terms guards kernel)) (scoped pairs around) slots 0) [] (after t (Loop v n walk (Leaf lhs terms guards kernel)) (scoped pairs around) slots path 0)
-              (ap (λ (b : Bool). if b then lane_visit leaf (scoped pairs around) slots v n (valid_values t walk v n guards pairs slots) else flat_map (λ i. if t.takes walk v pairs (slice_set slots v i) then tree_visits t (Leaf lhs terms guards kernel) (scoped pairs (v ∷ around)) (slice_set slots v i) (drop 1 path) else []) (values_on path n)) k
-              ∙ lanes_are leaf (scoped pairs around) slots v n one.0 (valid_values t walk v n guards pairs slots) one.1 one.2)
+              (ap (λ (b : Bool). if b then lane_visit leaf (scoped pairs around) slots v n (valid_values t walk v n (leaf_node lhs terms guards kernel) pairs slots) else flat_map (λ i. if t.takes walk v pairs (slice_set slots v i) then tree_visits t (Leaf lhs terms guards kernel) (scoped pairs (v ∷ around)) (slice_set slots v i) (drop 1 path) else []) (values_on path n)) k
+              ∙ lanes_are leaf (scoped pairs around) slots v n one.0 (valid_values t walk v n (leaf_node lhs terms guards kernel) pairs slots) one.1 one.2)
               refl
               (ap (λ (b : Bool). if b then item around else item_at t (Leaf lhs terms guards kernel) (scoped pairs (v ∷ around)) slots 0) k)
               (ap (λ (b : Bool). if b then [] else after t (Leaf lhs terms guards kernel) (scoped pairs (v ∷ around)) slots (drop 1 path) 0 ++ later t walk v n (Leaf lhs terms guards kernel) (scoped pairs around) path slots (slice_index slots v)) k);
@@ -161,7 +161,7 @@ lanes_found t walk v n (Leaf lhs terms guards kernel) pairs path slots k h z =
     }
 
 -- one without has none
-pub lanes_none : (t : Tests) (walk : Option Walk) (v n : ℕ) (body : Tree) (pairs : List Pair) (path slots : List ℕ) → is_kernel_leaf body ≡ true → list_any (is_valid t walk v (guards_of body) pairs slots) (range_with_len 0 n) ≡ false
+pub lanes_none : (t : Tests) (walk : Option Walk) (v n : ℕ) (body : Tree) (pairs : List Pair) (path slots : List ℕ) → is_kernel_leaf body ≡ true → list_any (is_valid t walk v (node_of body) pairs slots) (range_with_len 0 n) ≡ false
     → Finds t (Loop v n walk body) pairs path slots slots None
 lanes_none t walk v n (Loop u m more inner) pairs path slots k h = absurd (cc)
 lanes_none t walk v n (Pre work more p q) pairs path slots k h = absurd (cc)
@@ -169,8 +169,8 @@ lanes_none t walk v n (Leaf lhs terms guards kernel) pairs path slots k h =
     let leaf : LeafNode = record { lhs = lhs; terms = terms; guards = guards; kernel = kernel } in
     record {
       goes = (
-        λ around. ap (λ (b : Bool). if b then lane_visit leaf (scoped pairs around) slots v n (valid_values t walk v n guards pairs slots) else flat_map (λ i. if t.takes walk v pairs (slice_set slots v i) then tree_visits t (Leaf lhs terms guards kernel) (scoped pairs (v ∷ around)) (slice_set slots v i) (drop 1 path) else []) (values_on path n)) k
-            ∙ ap (lane_visit leaf (scoped pairs around) slots v n) (none_passes (is_valid t walk v guards pairs slots) (range_with_len 0 n) h),
+        λ around. ap (λ (b : Bool). if b then lane_visit leaf (scoped pairs around) slots v n (valid_values t walk v n (leaf_node lhs terms guards kernel) pairs slots) else flat_map (λ i. if t.takes walk v pairs (slice_set slots v i) then tree_visits t (Leaf lhs terms guards kernel) (scoped pairs (v ∷ around)) (slice_set slots v i) (drop 1 path) else []) (values_on path n)) k
+            ∙ ap (lane_visit leaf (scoped pairs around) slots v n) (none_passes (is_valid t walk v (leaf_node lhs terms guards kernel) pairs slots) (range_with_len 0 n) h),
         refl,
       );
     }
@@ -190,7 +190,7 @@ lanes_over t walk v n (Leaf lhs terms guards kernel) pairs path slots leaf0 k a 
 
 -- Leaves
 
-pub leaf_found : (t : Tests) (tree : Tree) (pairs : List Pair) (path slots : List ℕ) → IsLeafTree tree → t.holds (guards_of tree) pairs slots ≡ true → Finds t tree pairs path slots slots (Some 0)
+pub leaf_found : (t : Tests) (tree : Tree) (pairs : List Pair) (path slots : List ℕ) → IsLeafTree tree → t.holds (node_of tree) pairs slots ≡ true → Finds t tree pairs path slots slots (Some 0)
 leaf_found t (Loop u m more inner) pairs path slots l h = absurd l
 leaf_found t (Pre work more p q) pairs path slots l h = absurd l
 leaf_found t (Leaf lhs terms guards kernel) pairs path slots l h = record {
@@ -205,7 +205,7 @@ leaf_found t (Leaf lhs terms guards kernel) pairs path slots l h = record {
   );
 }
 
-pub leaf_none : (t : Tests) (tree : Tree) (pairs : List Pair) (path slots : List ℕ) → IsLeafTree tree → t.holds (guards_of tree) pairs slots ≡ false → Finds t tree pairs path slots slots None
+pub leaf_none : (t : Tests) (tree : Tree) (pairs : List Pair) (path slots : List ℕ) → IsLeafTree tree → t.holds (node_of tree) pairs slots ≡ false → Finds t tree pairs path slots slots None
 leaf_none t (Loop u m more inner) pairs path slots l h = absurd l
 leaf_none t (Pre work more p q) pairs path slots l h = absurd l
 leaf_none t (Leaf lhs terms guards kernel) pairs path slots l h =

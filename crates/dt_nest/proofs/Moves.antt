@@ -12,7 +12,7 @@ use Rattle.dt_nest.specs.declared.loops.Pair.{Pair}
 use Rattle.dt_nest.specs.declared.odometer.Stand.{Stand}
 use Rattle.dt_nest.specs.Tree.{Tree, Loop, Pre, leaf_count, is_kernel_leaf}
 use Rattle.dt_nest.specs.Visits.{Scope, scoped, entered, in_producer, Item, IsReset, Tests, valid_values, values_on, with_reset, substituted_visits, tree_visits}
-use Rattle.dt_nest.specs.Odometer.{cleared, AreZero, Lacks, HaveSlots, works_at, leaf_item, guards_of, item_at, step_of, end_on, after, IsAt, Reaches, Finds, Enters, ReachesFrom, FindsFrom, Steps}
+use Rattle.dt_nest.specs.Odometer.{cleared, AreZero, Lacks, HaveSlots, works_at, leaf_item, node_of, item_at, step_of, end_on, after, IsAt, Reaches, Finds, Enters, ReachesFrom, FindsFrom, Steps}
 use Rattle.dt_nest.proofs.Slots.{zero_set, cleared_other, zero_kept, zero_before, zero_cleared, cleared_zero}
 
 -- a longer range in two parts
@@ -103,7 +103,7 @@ reached t walk v n body scope path from to old new leaf list plain values stop l
 }
   where
     item : item_at t (Loop v n walk body) scope new leaf ≡ item_at t body (entered scope v) new leaf
-    item = ap (λ (b : Bool). if b then leaf_item t body scope new (Some (record { var = v; extent = n; valid = valid_values t walk v n (guards_of body) scope.pairs new })) else item_at t body (entered scope v) new leaf) plain
+    item = ap (λ (b : Bool). if b then leaf_item t body scope new (Some (record { var = v; extent = n; valid = valid_values t walk v n (node_of body) scope.pairs new })) else item_at t body (entered scope v) new leaf) plain
 
     rest : after t (Loop v n walk body) scope new path leaf ≡ after t body (entered scope v) new (drop 1 path) leaf ++ flat_map (step_of t walk v body scope (cleared body new) (drop 1 path)) (range_with_len (slice_index new v + 1) (end_on path n (slice_index new v) - (slice_index new v + 1)))
     rest = ap (λ (b : Bool). if b then [] else after t body (entered scope v) new (drop 1 path) leaf ++ flat_map (step_of t walk v body scope (cleared body new) (drop 1 path)) (range_with_len (slice_index new v + 1) (end_on path n (slice_index new v) - (slice_index new v + 1)))) plain

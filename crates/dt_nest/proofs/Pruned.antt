@@ -21,7 +21,7 @@ use Rattle.dt_nest.specs.FitsStored.{FitsStored}
 use Rattle.dt_nest.specs.Lawful.{WalkBelow, IsNamed, sources, is_replaced, AreOrdered, AreLoops, Loops, also, Follows, take_before, WalkFollows, AllFollow, AreGuarded, HaveGuards, IsLawful}
 use Rattle.dt_nest.proofs.Inside.{guard_holds, renamed_extents}
 use Rattle.dt_nest.proofs.Each.{all_get}
-use Rattle.dt_nest.specs.Visits.{Scope, at_root, entered, in_producer, Item, IsVisit, value_in, tests_of, with_reset, values_on, lane_visit, is_valid, substituted_visits, tree_visits, no_slots, visits_of}
+use Rattle.dt_nest.specs.Visits.{Scope, at_root, entered, in_producer, Item, IsVisit, value_in, tests_of, with_reset, values_on, lane_visit, is_valid, substituted_visits, tree_visits, no_slots, visits_of, leaf_node}
 use Rattle.dt_nest.specs.Values.{inside_in, with_first, all_inside, stored_inside, guard_inside, is_below, inside_tests}
 use Rattle.dt_nest.proofs.Names.{renamed-append}
 use Rattle.dt_nest.proofs.Known.{Outside, inside_known, inside_none, split_guarded}
@@ -95,7 +95,7 @@ module _ (stored : List StoredTensor) (s : Schedule) (each : (t : ℕ) → t < l
   no_lanes walk v n (Pre work more p q) around scope slots f keep g o = refl
   no_lanes walk v n (Leaf lhs terms guards kernel) around scope slots f keep g o =
       ap (lane_visit (record { lhs = lhs; terms = terms; guards = guards; kernel = kernel }) scope slots v n)
-      (filter_none (is_valid (tests_of (world_of stored s) ds) walk v guards scope.pairs slots) (range_with_len 0 n)
+      (filter_none (is_valid (tests_of (world_of stored s) ds) walk v (leaf_node lhs terms guards kernel) scope.pairs slots) (range_with_len 0 n)
       (λ x. and_false ((tests_of (world_of stored s) ds).takes walk v scope.pairs (slice_set slots v x)) (guards_hold (world_of stored s) (value_in (world_of stored s) ds scope.pairs (slice_set slots v x)) guards) (leaf_fails guards (also around v) scope.pairs (slice_set slots v x) keep g (deeper around scope.pairs slots v x f o))))
 
   -- where a variable is outside there is no visit
@@ -248,12 +248,12 @@ module _ (stored : List StoredTensor) (s : Schedule) (each : (t : ℕ) → t < l
     where
       go : (x : ℕ) → ((inside_tests (world_of stored s) ds).takes walk v scope.pairs (slice_set slots v x) ≡ (tests_of (world_of stored s) ds).takes walk v scope.pairs (slice_set slots v x))
           ⊎ (((inside_tests (world_of stored s) ds).takes walk v scope.pairs (slice_set slots v x) ≡ false) × Out (also around v) scope.pairs (slice_set slots v x))
-          → (inside_tests (world_of stored s) ds).holds guards scope.pairs (slice_set slots v x) ≡ (tests_of (world_of stored s) ds).holds guards scope.pairs (slice_set slots v x)
-          → is_valid (inside_tests (world_of stored s) ds) walk v guards scope.pairs slots x ≡ is_valid (tests_of (world_of stored s) ds) walk v guards scope.pairs slots x
-      go x (inl e) h = ap (λ (t : Bool). t && (inside_tests (world_of stored s) ds).holds guards scope.pairs (slice_set slots v x)) e ∙ ap (λ (t : Bool). (tests_of (world_of stored s) ds).takes walk v scope.pairs (slice_set slots v x) && t) h
+          → (inside_tests (world_of stored s) ds).holds (leaf_node lhs terms guards kernel) scope.pairs (slice_set slots v x) ≡ (tests_of (world_of stored s) ds).holds (leaf_node lhs terms guards kernel) scope.pairs (slice_set slots v x)
+          → is_valid (inside_tests (world_of stored s) ds) walk v (leaf_node lhs terms guards kernel) scope.pairs slots x ≡ is_valid (tests_of (world_of stored s) ds) walk v (leaf_node lhs terms guards kernel) scope.pairs slots x
+      go x (inl e) h = ap (λ (t : Bool). t && (inside_tests (world_of stored s) ds).holds (leaf_node lhs terms guards kernel) scope.pairs (slice_set slots v x)) e ∙ ap (λ (t : Bool). (tests_of (world_of stored s) ds).takes walk v scope.pairs (slice_set slots v x) && t) h
       go x (inr e) h =
-          ap (λ (t : Bool). t && (inside_tests (world_of stored s) ds).holds guards scope.pairs (slice_set slots v x)) e.0
-          ∙ sym (and_false ((tests_of (world_of stored s) ds).takes walk v scope.pairs (slice_set slots v x)) ((tests_of (world_of stored s) ds).holds guards scope.pairs (slice_set slots v x)) (leaf_fails guards (also around v) scope.pairs (slice_set slots v x) keep g e.1))
+          ap (λ (t : Bool). t && (inside_tests (world_of stored s) ds).holds (leaf_node lhs terms guards kernel) scope.pairs (slice_set slots v x)) e.0
+          ∙ sym (and_false ((tests_of (world_of stored s) ds).takes walk v scope.pairs (slice_set slots v x)) ((tests_of (world_of stored s) ds).holds (leaf_node lhs terms guards kernel) scope.pairs (slice_set slots v x)) (leaf_fails guards (also around v) scope.pairs (slice_set slots v x) keep g e.1))
 
   -- the visits under both tests are the same
   pub same_visits : (tree : Tree) (around : Loops) (scope : Scope) (slots path : List ℕ) → IsNamed s tree → FitsWalks stored s tree → AllFollow ds tree around (renamed scope.pairs) → HaveGuards ds tree around (renamed scope.pairs) → AreLoops ds tree → ArePlain around → Keeps scope.pairs

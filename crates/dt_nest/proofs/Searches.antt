@@ -9,7 +9,7 @@ use Rattle.dt_nest.specs.declared.loops.Pair.{Pair}
 use Rattle.dt_nest.specs.declared.odometer.Stand.{Stand}
 use Rattle.dt_nest.specs.Tree.{Tree, Loop, Pre, leaf_count, is_kernel_leaf}
 use Rattle.dt_nest.specs.Visits.{Tests, is_valid, IsPathIn}
-use Rattle.dt_nest.specs.Odometer.{HaveSlots, AreZero, guards_of, Finds, FindsFrom, Steps}
+use Rattle.dt_nest.specs.Odometer.{HaveSlots, AreZero, node_of, Finds, FindsFrom, Steps}
 use Rattle.dt_nest.proofs.Moves.{loop_finds, all_values, one_value, finds_first, finds_second, finds_none}
 use Rattle.dt_nest.proofs.LoopMoves.{lanes_found, lanes_none}
 
@@ -82,14 +82,14 @@ module _ (t : Tests) (tree : Tree) (walk : Option Walk) (v n : ℕ) (body given 
       (loop_finds t walk v n given pairs (x ∷ rest) x (x + 1) old new found k (one_value x n rest (subst (IsPathIn (Loop v n walk body)) p (subst (λ (y : Tree). IsPathIn y path) e l)).0) f)))
 
   -- a substituted loop
-  pub loop_lanes : is_kernel_leaf given ≡ true → AreZero tree old → (b : Bool) → b ≡ list_any (is_valid t walk v (guards_of given) pairs old) (range_with_len 0 n) → b ≡ true → new ≡ old → Finds t tree pairs path old new (Some 0)
+  pub loop_lanes : is_kernel_leaf given ≡ true → AreZero tree old → (b : Bool) → b ≡ list_any (is_valid t walk v (node_of given) pairs old) (range_with_len 0 n) → b ≡ true → new ≡ old → Finds t tree pairs path old new (Some 0)
   loop_lanes k z b h y s =
       finds_at t tree (Loop v n walk body) pairs path old new (Some 0) e
       (subst (λ (x : Tree). Finds t (Loop v n walk x) pairs path old new (Some 0)) same
       (subst (λ (l : List ℕ). Finds t (Loop v n walk given) pairs path old l (Some 0)) (sym s)
       (lanes_found t walk v n given pairs path old k (sym h ∙ y) (subst (λ (x : Tree). AreZero x old) e z).0)))
 
-  pub loop_no_lanes : is_kernel_leaf given ≡ true → (b : Bool) → b ≡ list_any (is_valid t walk v (guards_of given) pairs old) (range_with_len 0 n) → b ≡ false → new ≡ old → Finds t tree pairs path old new None
+  pub loop_no_lanes : is_kernel_leaf given ≡ true → (b : Bool) → b ≡ list_any (is_valid t walk v (node_of given) pairs old) (range_with_len 0 n) → b ≡ false → new ≡ old → Finds t tree pairs path old new None
   loop_no_lanes k b h y s =
       finds_at t tree (Loop v n walk body) pairs path old new None e
       (subst (λ (x : Tree). Finds t (Loop v n walk x) pairs path old new None) same

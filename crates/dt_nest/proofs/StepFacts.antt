@@ -7,7 +7,7 @@ use Rattle.dt_nest.specs.declared.wheels.Wheels.{Wheels}
 use Rattle.dt_nest.specs.Schedule.{Schedule}
 use Rattle.dt_nest.specs.Visits.{at_root, Item}
 use Rattle.dt_nest.specs.Odometer.{item_at, after, HaveSlots, pairs_at}
-use Rattle.dt_nest.specs.Wheels.{AreWheels, turned, last_wheels}
+use Rattle.dt_nest.specs.Wheels.{AreWheels, turned, last_wheels, last_node}
 use Rattle.dt_nest.specs.Run.{run_tests, left_of, Stands, ItemHolds, CanGoOn, Moves}
 use Rattle.dt_nest.specs.declared.wheels.Wheel.{Wheel}
 use Rattle.dt_nest.specs.Lawful.{IsLawful, is_replaced}
@@ -38,25 +38,25 @@ module _ (stored : List StoredTensor) (s : Schedule) (path old new : List ℕ) (
       (ap (λ ws. turned ws old) (sym are.items) ∙ e))
 
   -- where the guards hold it comes to the next visit
-  pub step_visits : CanGoOn stored s path old (On w.leaf) → turned w.items.items old ≡ Some new → (run_tests stored s).holds w.guards.items [] new ≡ true
+  pub step_visits : CanGoOn stored s path old (On w.leaf) → turned w.items.items old ≡ Some new → (run_tests stored s).holds (last_node s.nest) [] new ≡ true
       → Moves (run_tests stored s) s.nest path (left_of (run_tests stored s) s.nest path old (On w.leaf)) new (On w.leaf) × Stands s.nest new (On w.leaf)
   step_visits i e h =
       let k = step i e in (
         k.items
-            ∙ ap (λ (b : Bool). given b (item_at (run_tests stored s) s.nest at_root new w.leaf) ++ after (run_tests stored s) s.nest at_root new path w.leaf) (ap (λ (l : List ℕ). (run_tests stored s).holds l [] new) (sym are.guards) ∙ h)
+            ∙ ap (λ (b : Bool). given b (item_at (run_tests stored s) s.nest at_root new w.leaf) ++ after (run_tests stored s) s.nest at_root new path w.leaf) h
             ∙ ap (λ (i : Item). i ∷ after (run_tests stored s) s.nest at_root new path w.leaf) (item-visit (run_tests stored s) s.nest at_root new w.leaf),
         (k.stands, i.stands.1),
       )
 
   -- and where they do not the same items are left
-  pub step_left : CanGoOn stored s path old (On w.leaf) → turned w.items.items old ≡ Some new → (run_tests stored s).holds w.guards.items [] new ≡ false
+  pub step_left : CanGoOn stored s path old (On w.leaf) → turned w.items.items old ≡ Some new → (run_tests stored s).holds (last_node s.nest) [] new ≡ false
       → left_of (run_tests stored s) s.nest path old (On w.leaf) ≡ left_of (run_tests stored s) s.nest path new (On w.leaf)
   step_left i e h =
       let k = step i e in
-      k.items ∙ ap (λ (b : Bool). given b (item_at (run_tests stored s) s.nest at_root new w.leaf) ++ after (run_tests stored s) s.nest at_root new path w.leaf) (ap (λ (l : List ℕ). (run_tests stored s).holds l [] new) (sym are.guards) ∙ h)
+      k.items ∙ ap (λ (b : Bool). given b (item_at (run_tests stored s) s.nest at_root new w.leaf) ++ after (run_tests stored s) s.nest at_root new path w.leaf) h
 
   -- and can go on from there
-  pub step_passes : CanGoOn stored s path old (On w.leaf) → length new ≡ length old → turned w.items.items old ≡ Some new → (run_tests stored s).holds w.guards.items [] new ≡ false → CanGoOn stored s path new (On w.leaf)
+  pub step_passes : CanGoOn stored s path old (On w.leaf) → length new ≡ length old → turned w.items.items old ≡ Some new → (run_tests stored s).holds (last_node s.nest) [] new ≡ false → CanGoOn stored s path new (On w.leaf)
   step_passes i room e h = record {
     lawful = i.lawful;
     fits = i.fits;
@@ -73,6 +73,7 @@ can_turn s path w are l = record {
   loops = subst (AllByRecursion (λ (x : Wheel). is_replaced s.derived x.var ≡ false)) (sym are.items) (wheel_loops s.derived s.nest path l.loops);
   count = are.count;
   derived = are.derived;
+  guards = are.guards;
 }
 
 -- each wheel has a name

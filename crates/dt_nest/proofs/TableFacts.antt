@@ -92,12 +92,12 @@ loops_follow w ds old new values after t f u r = f u (t u ∙ inside_loop w ds o
 
 -- guards hold by a table
 pub table_holds : (w : World) (ds : List Derived) (slots : List ℕ) (values : List (Option ℕ)) (guards : List ℕ) → IsTable w ds (λ u. u) slots values
-    → list_all (λ g. is_below (w.extent g) (tabled values g)) guards ≡ (inside_tests w ds).holds guards [] slots
+    → list_all (λ g. is_below (w.extent g) (tabled values g)) guards ≡ list_all (guard_inside w (inside_in w ds [] slots)) guards
 table_holds w ds slots values guards t = ap (λ (val : ℕ → Option ℕ). list_all (guard_inside w val) guards) (fun_ext t)
 
 -- and where names are new
 pub table_holds_at : (w : World) (ds : List Derived) (pairs : List Pair) (slots : List ℕ) (values : List (Option ℕ)) (guards : List ℕ) → IsTable w ds (renamed pairs) slots values
-    → list_all (λ g. is_below (w.extent g) (tabled values (renamed pairs g))) guards ≡ (inside_tests w ds).holds guards pairs slots
+    → list_all (λ g. is_below (w.extent g) (tabled values (renamed pairs g))) guards ≡ list_all (guard_inside w (inside_in w ds pairs slots)) guards
 table_holds_at w ds pairs slots values guards t = ap (λ (val : ℕ → Option ℕ). list_all (guard_inside w val) guards) (fun_ext (λ u. t (renamed pairs u)))
 
 -- a loop takes its value by a table

@@ -11,10 +11,10 @@ use Rattle.dt_nest.specs.declared.derivations.Derived.{Derived}
 use Rattle.dt_nest.specs.declared.wheels.Wheel.{Wheel}
 use Rattle.dt_nest.specs.Lawful.{AreLoops, is_replaced}
 use Rattle.dt_nest.specs.Tree.{Tree, Loop, Pre, Leaf, leaf_count, is_stored_kernel, is_kernel_leaf}
-use Rattle.dt_nest.specs.Visits.{Scope, entered, Item, Tests, tree_visits, substituted_visits}
+use Rattle.dt_nest.specs.Visits.{Scope, entered, Item, Tests, tree_visits, substituted_visits, leaf_node}
 use Rattle.dt_nest.specs.Odometer.{cleared, AreZero, Lacks, HaveSlots, item_at, pairs_at, step_of, after, IsAt}
 use Rattle.dt_nest.proofs.Each.{all_append}
-use Rattle.dt_nest.specs.Wheels.{is_plain, wheels_of, last_wheels, last_guards, turned}
+use Rattle.dt_nest.specs.Wheels.{is_plain, wheels_of, last_wheels, last_node, turned}
 use Rattle.dt_nest.proofs.Slots.{cleared_other, length-cleared, zero_cleared, cleared_zero, zero_set, zero_kept, zero_before, set_again}
 use Rattle.dt_nest.proofs.Moves.{step_base, second_item, second_after, second_stands, second_stood}
 use Rattle.dt_nest.proofs.LoopMoves.{later, after_loop, item_loop, stood_loop}
@@ -122,7 +122,7 @@ given false item = []
 module _ (t : Tests) (takes : (v : ℕ) (pairs : List Pair) (slots : List ℕ) → t.takes None v pairs slots ≡ true) where
   -- what a step reached
   pub record Turns (tree : Tree) (scope : Scope) (path old new : List ℕ) (leaf : ℕ) : Type 0 where
-    pub items : after t tree scope old path leaf ≡ given (t.holds (last_guards tree) scope.pairs new) (item_at t tree scope new leaf) ++ after t tree scope new path leaf
+    pub items : after t tree scope old path leaf ≡ given (t.holds (last_node tree) scope.pairs new) (item_at t tree scope new leaf) ++ after t tree scope new path leaf
     pub stands : IsAt tree new leaf
     pub same : cleared tree new ≡ cleared tree old
 
@@ -136,11 +136,11 @@ module _ (t : Tests) (takes : (v : ℕ) (pairs : List Pair) (slots : List ℕ) �
         items =
             after_loop t walk v n body scope path old leaf plain
             ∙ ap (λ (l : List Item). l ++ later t walk v n body scope path (cleared body old) (slice_index old v)) h.items
-            ∙ append_assoc (given (t.holds (last_guards body) scope.pairs new) (item_at t body (entered scope v) new leaf)) (after t body (entered scope v) new (drop 1 path) leaf) (later t walk v n body scope path (cleared body old) (slice_index old v))
-            ∙ ap (λ (i : Item). given (t.holds (last_guards body) scope.pairs new) i ++ (after t body (entered scope v) new (drop 1 path) leaf ++ later t walk v n body scope path (cleared body old) (slice_index old v))) (sym (item_loop t walk v n body scope new leaf plain))
-            ∙ ap (λ (l : List ℕ). given (t.holds (last_guards body) scope.pairs new) (item_at t (Loop v n walk body) scope new leaf) ++ (after t body (entered scope v) new (drop 1 path) leaf ++ later t walk v n body scope path l (slice_index old v))) (sym h.same)
-            ∙ ap (λ (x : ℕ). given (t.holds (last_guards body) scope.pairs new) (item_at t (Loop v n walk body) scope new leaf) ++ (after t body (entered scope v) new (drop 1 path) leaf ++ later t walk v n body scope path (cleared body new) x)) (sym slot)
-            ∙ ap (λ (l : List Item). given (t.holds (last_guards body) scope.pairs new) (item_at t (Loop v n walk body) scope new leaf) ++ l) (sym (after_loop t walk v n body scope path new leaf plain));
+            ∙ append_assoc (given (t.holds (last_node body) scope.pairs new) (item_at t body (entered scope v) new leaf)) (after t body (entered scope v) new (drop 1 path) leaf) (later t walk v n body scope path (cleared body old) (slice_index old v))
+            ∙ ap (λ (i : Item). given (t.holds (last_node body) scope.pairs new) i ++ (after t body (entered scope v) new (drop 1 path) leaf ++ later t walk v n body scope path (cleared body old) (slice_index old v))) (sym (item_loop t walk v n body scope new leaf plain))
+            ∙ ap (λ (l : List ℕ). given (t.holds (last_node body) scope.pairs new) (item_at t (Loop v n walk body) scope new leaf) ++ (after t body (entered scope v) new (drop 1 path) leaf ++ later t walk v n body scope path l (slice_index old v))) (sym h.same)
+            ∙ ap (λ (x : ℕ). given (t.holds (last_node body) scope.pairs new) (item_at t (Loop v n walk body) scope new leaf) ++ (after t body (entered scope v) new (drop 1 path) leaf ++ later t walk v n body scope path (cleared body new) x)) (sym slot)
+            ∙ ap (λ (l : List Item). given (t.holds (last_node body) scope.pairs new) (item_at t (Loop v n walk body) scope new leaf) ++ l) (sym (after_loop t walk v n body scope path new leaf plain));
         stands = (subst (λ (b : Bool). MatchBool b (slice_index new v ≡ 0) (slice_index new v < n)) (sym plain) (omega (arith, slot, stood.0)), h.stands);
         same = ap (λ (l : List ℕ). set l v 0) h.same;
       }
@@ -161,7 +161,7 @@ module _ (t : Tests) (takes : (v : ℕ) (pairs : List Pair) (slots : List ℕ) �
 
   -- the first leaf of a plain tree, and what comes after it
   plain_first : (tree : Tree) (scope : Scope) (old slots : List ℕ) → is_plain tree ≡ true → IsAt tree old 0 → AreZero tree slots
-      → tree_visits t tree scope slots [] ≡ given (t.holds (last_guards tree) scope.pairs slots) (item_at t tree scope slots 0) ++ after t tree scope slots [] 0
+      → tree_visits t tree scope slots [] ≡ given (t.holds (last_node tree) scope.pairs slots) (item_at t tree scope slots 0) ++ after t tree scope slots [] 0
   plain_first (Loop v n None body) scope old slots p a z =
       let plain = plain_kernel body p in
       let stood = stood_loop None v n body old 0 plain a in
@@ -175,13 +175,13 @@ module _ (t : Tests) (takes : (v : ℕ) (pairs : List Pair) (slots : List ℕ) �
       ∙ ap (λ (m : ℕ). flat_map (step_of t None v body scope slots []) (range_with_len 0 m)) whole
       ∙ first_of (step_of t None v body scope slots []) 0 n some
       ∙ ap (λ (l : List Item). l ++ flat_map (step_of t None v body scope slots []) (range_with_len 1 (n - 1))) (plain_step v body scope slots 0 ∙ ap (λ (l : List ℕ). tree_visits t body (entered scope v) l []) here ∙ plain_first body (entered scope v) old slots p stood.1 z.1)
-      ∙ append_assoc (given (t.holds (last_guards body) scope.pairs slots) (item_at t body (entered scope v) slots 0)) (after t body (entered scope v) slots [] 0) (flat_map (step_of t None v body scope slots []) (range_with_len 1 (n - 1)))
-      ∙ ap (λ (l : List Item). given (t.holds (last_guards body) scope.pairs slots) (item_at t body (entered scope v) slots 0) ++ (after t body (entered scope v) slots [] 0 ++ l)) rest
-      ∙ ap (λ (i : Item). given (t.holds (last_guards body) scope.pairs slots) i ++ (after t body (entered scope v) slots [] 0 ++ later t None v n body scope [] (cleared body slots) (slice_index slots v))) (sym (item_loop t None v n body scope slots 0 plain))
-      ∙ ap (λ (l : List Item). given (t.holds (last_guards body) scope.pairs slots) (item_at t (Loop v n None body) scope slots 0) ++ l) (sym (after_loop t None v n body scope [] slots 0 plain))
+      ∙ append_assoc (given (t.holds (last_node body) scope.pairs slots) (item_at t body (entered scope v) slots 0)) (after t body (entered scope v) slots [] 0) (flat_map (step_of t None v body scope slots []) (range_with_len 1 (n - 1)))
+      ∙ ap (λ (l : List Item). given (t.holds (last_node body) scope.pairs slots) (item_at t body (entered scope v) slots 0) ++ (after t body (entered scope v) slots [] 0 ++ l)) rest
+      ∙ ap (λ (i : Item). given (t.holds (last_node body) scope.pairs slots) i ++ (after t body (entered scope v) slots [] 0 ++ later t None v n body scope [] (cleared body slots) (slice_index slots v))) (sym (item_loop t None v n body scope slots 0 plain))
+      ∙ ap (λ (l : List Item). given (t.holds (last_node body) scope.pairs slots) (item_at t (Loop v n None body) scope slots 0) ++ l) (sym (after_loop t None v n body scope [] slots 0 plain))
   plain_first (Loop v n (Some walk) body) scope old slots p a z = absurd (cc)
   plain_first (Pre work more b c) scope old slots p a z = absurd (cc)
-  plain_first (Leaf lhs terms guards kernel) scope old slots p a z = go (t.holds guards scope.pairs slots)
+  plain_first (Leaf lhs terms guards kernel) scope old slots p a z = go (t.holds (leaf_node lhs terms guards kernel) scope.pairs slots)
     where
       go : (b : Bool) → (if b then item_at t (Leaf lhs terms guards kernel) scope slots 0 ∷ [] else []) ≡ given b (item_at t (Leaf lhs terms guards kernel) scope slots 0) ++ []
       go true = refl
@@ -233,10 +233,10 @@ module _ (t : Tests) (takes : (v : ℕ) (pairs : List Pair) (slots : List ℕ) �
                 ∙ first_of (step_of t None v body scope (cleared body old) []) (slice_index old v + 1) n more
                 ∙ ap (λ (l : List Item). l ++ flat_map (step_of t None v body scope (cleared body old) []) (range_with_len (slice_index old v + 1 + 1) (n - (slice_index old v + 1 + 1))))
                 (plain_step v body scope (cleared body old) (slice_index old v + 1) ∙ plain_first body (entered scope v) old next p stood.1 next_zero)
-                ∙ append_assoc (given (t.holds (last_guards body) scope.pairs next) (item_at t body (entered scope v) next 0)) (after t body (entered scope v) next [] 0) (flat_map (step_of t None v body scope (cleared body old) []) (range_with_len (slice_index old v + 1 + 1) (n - (slice_index old v + 1 + 1))))
-                ∙ ap (λ (l : List Item). given (t.holds (last_guards body) scope.pairs next) (item_at t body (entered scope v) next 0) ++ (after t body (entered scope v) next [] 0 ++ l)) rest
-                ∙ ap (λ (i : Item). given (t.holds (last_guards body) scope.pairs next) i ++ (after t body (entered scope v) next [] 0 ++ later t None v n body scope [] (cleared body next) (slice_index next v))) (sym (item_loop t None v n body scope next 0 plain))
-                ∙ ap (λ (l : List Item). given (t.holds (last_guards body) scope.pairs next) (item_at t (Loop v n None body) scope next 0) ++ l) (sym (after_loop t None v n body scope [] next 0 plain));
+                ∙ append_assoc (given (t.holds (last_node body) scope.pairs next) (item_at t body (entered scope v) next 0)) (after t body (entered scope v) next [] 0) (flat_map (step_of t None v body scope (cleared body old) []) (range_with_len (slice_index old v + 1 + 1) (n - (slice_index old v + 1 + 1))))
+                ∙ ap (λ (l : List Item). given (t.holds (last_node body) scope.pairs next) (item_at t body (entered scope v) next 0) ++ (after t body (entered scope v) next [] 0 ++ l)) rest
+                ∙ ap (λ (i : Item). given (t.holds (last_node body) scope.pairs next) i ++ (after t body (entered scope v) next [] 0 ++ later t None v n body scope [] (cleared body next) (slice_index next v))) (sym (item_loop t None v n body scope next 0 plain))
+                ∙ ap (λ (l : List Item). given (t.holds (last_node body) scope.pairs next) (item_at t (Loop v n None body) scope next 0) ++ l) (sym (after_loop t None v n body scope [] next 0 plain));
             stands = (
               subst (λ (b : Bool). MatchBool b (slice_index next v ≡ 0) (slice_index next v < n)) (sym plain) (omega (arith, next_slot, more)),
               first_stand body old next p stood.1 next_zero,
@@ -299,8 +299,8 @@ module _ (t : Tests) (takes : (v : ℕ) (pairs : List Pair) (slots : List ℕ) �
         items =
             second_after t work more p q scope path (leaf_count p + leaf_count q - 1) (leaf_count q - 1) last old
             ∙ h.items
-            ∙ ap (λ (i : Item). given (t.holds (last_guards q) scope.pairs new) i ++ after t q scope new [] (leaf_count q - 1)) (sym (second_item t work more p q scope path (leaf_count p + leaf_count q - 1) (leaf_count q - 1) last new))
-            ∙ ap (λ (l : List Item). given (t.holds (last_guards q) scope.pairs new) (item_at t (Pre work more p q) scope new (leaf_count p + leaf_count q - 1)) ++ l) (sym (second_after t work more p q scope path (leaf_count p + leaf_count q - 1) (leaf_count q - 1) last new));
+            ∙ ap (λ (i : Item). given (t.holds (last_node q) scope.pairs new) i ++ after t q scope new [] (leaf_count q - 1)) (sym (second_item t work more p q scope path (leaf_count p + leaf_count q - 1) (leaf_count q - 1) last new))
+            ∙ ap (λ (l : List Item). given (t.holds (last_node q) scope.pairs new) (item_at t (Pre work more p q) scope new (leaf_count p + leaf_count q - 1)) ++ l) (sym (second_after t work more p q scope path (leaf_count p + leaf_count q - 1) (leaf_count q - 1) last new));
         stands = second_stands t work more p q scope path (leaf_count p + leaf_count q - 1) (leaf_count q - 1) last new z h.stands;
         same = ap (cleared q) (cleared_zero p new z) ∙ h.same ∙ sym (ap (cleared q) (cleared_zero p old stood.0));
       }

@@ -4,7 +4,7 @@ use Rattle.dt_nest.specs.declared.loops.Pair.{Pair}
 use Rattle.dt_nest.specs.declared.branches.Substituted.{Substituted}
 use Rattle.dt_nest.specs.Tree.{Tree, Loop, Pre, Leaf, leaf_count, is_kernel_leaf}
 use Rattle.dt_nest.specs.Visits.{LeafNode, Lanes, Scope, LeafVisit, Tests, is_valid, valid_values}
-use Rattle.dt_nest.specs.Odometer.{guards_of, pairs_at}
+use Rattle.dt_nest.specs.Odometer.{node_of, pairs_at}
 
 -- the leaf
 abbrev pub leaf_at : Tree → ℕ → Tree
@@ -41,7 +41,7 @@ substituted_at (Leaf lhs terms guards kernel) leaf = None
 -- whether x is a valid value of the substituted loop around the leaf
 abbrev pub valid_at : Tests → Tree → List Pair → List ℕ → ℕ → ℕ → Bool
 valid_at t (Loop v n walk body) pairs slots leaf x =
-    if is_kernel_leaf body then is_valid t walk v (guards_of body) pairs slots x else valid_at t body pairs slots leaf x
+    if is_kernel_leaf body then is_valid t walk v (node_of body) pairs slots x else valid_at t body pairs slots leaf x
 valid_at t (Pre work more producer consumer) pairs slots leaf x =
     if nat_lt leaf (leaf_count producer) then valid_at t producer (pairs ++ more) slots leaf x else valid_at t consumer pairs slots (leaf - leaf_count producer) x
 valid_at t (Leaf lhs terms guards kernel) pairs slots leaf x = false
@@ -49,7 +49,7 @@ valid_at t (Leaf lhs terms guards kernel) pairs slots leaf x = false
 -- the substituted loop around the leaf, with its valid values
 abbrev pub lanes_at : Tests → Tree → List Pair → List ℕ → ℕ → Option Lanes
 lanes_at t (Loop v n walk body) pairs slots leaf =
-    if is_kernel_leaf body then Some (record { var = v; extent = n; valid = valid_values t walk v n (guards_of body) pairs slots })
+    if is_kernel_leaf body then Some (record { var = v; extent = n; valid = valid_values t walk v n (node_of body) pairs slots })
     else lanes_at t body pairs slots leaf
 lanes_at t (Pre work more producer consumer) pairs slots leaf =
     if nat_lt leaf (leaf_count producer) then lanes_at t producer (pairs ++ more) slots leaf else lanes_at t consumer pairs slots (leaf - leaf_count producer)

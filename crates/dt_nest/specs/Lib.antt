@@ -3,15 +3,16 @@ pub mod Chain
 pub mod Commands
 pub mod CommunicateLoops
 pub mod Effects
-pub mod Filled
 pub mod FitsStored
 pub mod Grid
 pub mod Lawful
 pub mod Meaning
 pub mod NameTables
 pub mod Naming
+pub mod NestTexts
 pub mod Odometer
 pub mod Outputs
+pub mod PartNames
 pub mod PathLaws
 pub mod PathSteps
 pub mod Paths

@@ -6,7 +6,8 @@ use Rattle.dt_nest.specs.declared.loops.Walk.{Walk}
 use Rattle.dt_nest.specs.declared.loops.Pair.{Pair}
 use Rattle.dt_nest.specs.declared.odometer.Stand.{Stand}
 use Rattle.dt_nest.specs.Tree.{Tree, Loop, Pre, Leaf, leaf_count, is_kernel_leaf}
-use Rattle.dt_nest.specs.Visits.{Lanes, Scope, scoped, entered, in_producer, Item, IsReset, IsVisit, Tests, valid_values, tree_visits}
+use Rattle.dt_nest.specs.declared.loops.Kernel.TheVariants.{Plain}
+use Rattle.dt_nest.specs.Visits.{LeafNode, leaf_node, Lanes, Scope, scoped, entered, in_producer, Item, IsReset, IsVisit, Tests, valid_values, tree_visits}
 
 -- the slots with those of the tree's loops at 0
 abbrev pub cleared : Tree → List ℕ → List ℕ
@@ -59,16 +60,20 @@ leaf_item t (Pre work more producer consumer) scope slots lanes = IsReset 0
 leaf_item t (Leaf lhs terms guards kernel) scope slots lanes =
     IsVisit (record { leaf = record { lhs = lhs; terms = terms; guards = guards; kernel = kernel }; around = scope.around; pairs = scope.pairs; slots = slots; lanes = lanes })
 
--- the guards of a leaf
-abbrev pub guards_of : Tree → List ℕ
-guards_of (Loop v n walk body) = []
-guards_of (Pre work more producer consumer) = []
-guards_of (Leaf lhs terms guards kernel) = guards
+-- a leaf of nothing
+abbrev pub no_node : LeafNode
+no_node = leaf_node (record { tensor = 0; vars = [] }) [] [] Plain
+
+-- the parts of a leaf
+abbrev pub node_of : Tree → LeafNode
+node_of (Loop v n walk body) = no_node
+node_of (Pre work more producer consumer) = no_node
+node_of (Leaf lhs terms guards kernel) = leaf_node lhs terms guards kernel
 
 -- the visit where the run stands
 abbrev pub item_at : Tests → Tree → Scope → List ℕ → ℕ → Item
 item_at t (Loop v n walk body) scope slots leaf =
-    if is_kernel_leaf body then leaf_item t body scope slots (Some (record { var = v; extent = n; valid = valid_values t walk v n (guards_of body) scope.pairs slots }))
+    if is_kernel_leaf body then leaf_item t body scope slots (Some (record { var = v; extent = n; valid = valid_values t walk v n (node_of body) scope.pairs slots }))
     else item_at t body (entered scope v) slots leaf
 item_at t (Pre work more producer consumer) scope slots leaf =
     if nat_lt leaf (leaf_count producer) then item_at t producer (in_producer scope more) slots leaf else item_at t consumer scope slots (leaf - leaf_count producer)

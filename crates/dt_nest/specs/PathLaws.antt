@@ -1,5 +1,5 @@
 -- Laws of paths: what the visits under a path are and add.
-use Rattle.std.specs.Prelude.{◌≡◌, ◌≢◌, ℕ, suc, ◌+◌, ◌%◌, ◌^◌, ◌<◌, ◌≤◌, List, [], ◌∷◌, ◌++◌, length, sum_by}
+use Rattle.std.specs.Prelude.{◌≡◌, ◌≢◌, ℕ, suc, ◌+◌, ◌%◌, ◌^◌, ◌<◌, ◌≤◌, Bool, true, false, ◌&&◌, List, [], ◌∷◌, ◌++◌, filter, length, map, nat_eq, reverse, slice_index, sum_by}
 use Rattle.std.specs.List.{AllByRecursion, flat_map}
 use Rattle.dt_base.specs.Ranges.{below, assignments}
 use Rattle.dt_model.specs.Positions.{StoredTensor}
@@ -8,7 +8,7 @@ use Rattle.dt_nest.specs.Meaning.{Entries}
 use Rattle.dt_nest.specs.World.{world_of}
 use Rattle.dt_nest.specs.Lawful.{IsLawful}
 use Rattle.dt_nest.specs.Outputs.{output_of, IsUnread}
-use Rattle.dt_nest.specs.Visits.{visits_of, IsPath}
+use Rattle.dt_nest.specs.Visits.{LeafVisit, Item, IsReset, IsVisit, visits_of, IsPath}
 use Rattle.dt_nest.specs.Effects.{entries_after, sum_over}
 use Rattle.dt_nest.specs.Grid.{outer_extents}
 use Rattle.dt_nest.specs.Paths.{HasLoops, extent_inside, task_depth, sum_on}
@@ -18,6 +18,32 @@ abbrev pub VisitsFollowPaths : Type 0
 VisitsFollowPaths =
     (stored : List StoredTensor) (s : Schedule) (p : List ℕ) → HasLoops (suc (length p)) s.nest
     → visits_of stored s p ≡ flat_map (λ i. visits_of stored s (p ++ i ∷ [])) (below (extent_inside (length p) s.nest))
+
+-- the visits of leaves among the items
+abbrev pub leaf_visits : List Item → List LeafVisit
+leaf_visits [] = []
+leaf_visits (IsReset work ∷ items) = leaf_visits items
+leaf_visits (IsVisit visit ∷ items) = visit ∷ leaf_visits items
+
+-- the values of the loops that are entered at a visit, the outermost first
+abbrev pub loop_values : LeafVisit → List ℕ
+loop_values visit = reverse (map (slice_index visit.slots) visit.around)
+
+-- whether a list begins with the numbers of another
+abbrev pub begins_with : List ℕ → List ℕ → Bool
+begins_with [] values = true
+begins_with (x ∷ path) [] = false
+begins_with (x ∷ path) (y ∷ values) = nat_eq x y && begins_with path values
+
+-- whether a visit extends a path: the outermost loops have its values
+abbrev pub extends : List ℕ → LeafVisit → Bool
+extends p visit = begins_with p (loop_values visit)
+
+-- The visits of leaves under a path are those of the whole nest that extend it.
+abbrev pub VisitsExtendPaths : Type 0
+VisitsExtendPaths =
+    (stored : List StoredTensor) (s : Schedule) (p : List ℕ) → IsLawful s → IsPath s p
+    → leaf_visits (visits_of stored s p) ≡ filter (extends p) (leaf_visits (visits_of stored s []))
 
 -- The values of the loops down to a communicate loop are paths.
 abbrev pub AssignmentsArePaths : Type 0

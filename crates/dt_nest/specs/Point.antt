@@ -1,5 +1,5 @@
 -- A point of a visit: the visit itself, or one valid value of its substituted loop, which is then the lane.
-use Rattle.std.specs.Prelude.{◌≡◌, ℕ, true, List, [], Option, Some, None, slice_set, unwrap_or}
+use Rattle.std.specs.Prelude.{◌≡◌, ℕ, ◌<◌, true, List, [], Option, Some, None, slice_index, slice_set, unwrap_or}
 use Rattle.dt_nest.specs.declared.derivations.Derived.{Derived}
 use Rattle.dt_nest.specs.declared.loops.Kernel.TheVariants.{Plain}
 use Rattle.dt_nest.specs.declared.points.Point.{Point}
@@ -56,11 +56,13 @@ valid_in (Some lanes) = lanes.valid
 abbrev pub valid_of : Run → List ℕ
 valid_of r = valid_in (visit_of r).lanes
 
--- The list has the value of each variable that has one at a point of the visit where a run stands.
+-- The lane gives a point of the visit where a run stands, and the list has the value of each variable that has one there,
+-- which is below its extent.
 pub record ArePointValues (r : Run) (lane : Option ℕ) (values : List (Option ℕ)) : Type 0 where
+  pub point : IsPoint r lane
   pub has : (u : ℕ) → HasValueAt r lane u → unwrap_or (tabled values u) 0 ≡ env_at r lane u
+  pub below : (u : ℕ) → HasValueAt r lane u → env_at r lane u < slice_index r.sched.extents u
 
--- A point of the visit where a run stands, with the values of the variables there.
-pub record IsPointOf (r : Run) (p : Point) : Type 0 where
-  pub point : IsPoint r p.lane
-  pub values : ArePointValues r p.lane p.values.now
+-- a point of the visit where a run stands, with the values of the variables there
+abbrev pub IsPointOf : Run → Point → Type 0
+IsPointOf r p = ArePointValues r p.lane p.values.now

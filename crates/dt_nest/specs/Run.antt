@@ -166,10 +166,10 @@ Stands tree slots (Resetting leaf past work) = IsAt tree slots leaf × (leaf < l
 Stands tree slots (On leaf) = IsAt tree slots leaf × (leaf < leaf_count tree)
 Stands tree slots Done = Unit {0}
 
--- the guards hold at a visit, with each valid value of a substituted loop, of which there is one
+-- the leaf of a visit is visited there, with each valid value of a substituted loop, of which there is one
 abbrev pub GuardsHold : Tests → LeafNode → List Pair → List ℕ → Option Lanes → Type 0
-GuardsHold t leaf pairs slots None = t.holds leaf.guards pairs slots ≡ true
-GuardsHold t leaf pairs slots (Some lanes) = (0 < length lanes.valid) × AllByRecursion (λ x. t.holds leaf.guards pairs (slice_set slots lanes.var x) ≡ true) lanes.valid
+GuardsHold t leaf pairs slots None = t.holds leaf pairs slots ≡ true
+GuardsHold t leaf pairs slots (Some lanes) = (0 < length lanes.valid) × AllByRecursion (λ x. t.holds leaf pairs (slice_set slots lanes.var x) ≡ true) lanes.valid
 
 -- so they do at an item, if it is a visit
 abbrev pub ItemHolds : Tests → Item → Type 0

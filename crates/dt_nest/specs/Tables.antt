@@ -11,6 +11,10 @@ use Rattle.dt_nest.specs.Values.{derived_inside, inside}
 abbrev pub tabled : List (Option ℕ) → ℕ → Option ℕ
 tabled values u = slice_index_or values u (Some 0)
 
+-- the value of each variable by its name at a place, where the list has the values under names
+abbrev pub named : List (Option ℕ) → Env → ℕ → Option ℕ
+named values name = λ u. tabled values (name u)
+
 -- v is a variable of a split
 abbrev pub IsSplitVar : List Derived → ℕ → Type 0
 IsSplitVar [] v = ⊥

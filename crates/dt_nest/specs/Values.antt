@@ -77,5 +77,5 @@ guard_inside w val g = is_below (w.extent g) (val g)
 abbrev pub inside_tests : World → List Derived → Tests
 inside_tests w ds = record {
   takes = λ walk v pairs slots. takes_inside w walk v (renamed pairs) (inside_in w ds pairs slots);
-  holds = λ guards pairs slots. list_all (guard_inside w (inside_in w ds pairs slots)) guards;
+  holds = λ leaf pairs slots. list_all (guard_inside w (inside_in w ds pairs slots)) leaf.guards;
 }

@@ -20,7 +20,7 @@ use Rattle.dt_nest.specs.Visits.{Tests}
 use Rattle.dt_nest.specs.Odometer.{pairs_at}
 use Rattle.dt_nest.specs.Branch.{leaf_at, substituted_at}
 use Rattle.dt_nest.specs.Tables.{IsLeafTable}
-use Rattle.dt_nest.specs.Wheels.{AreDependents, AreWheels, turned}
+use Rattle.dt_nest.specs.Wheels.{AreDependents, AreWheels, last_node, turned}
 use Rattle.dt_nest.specs.Run.{CanGoOn, Moves, Stands, left_of, run_tests}
 
 -- The leaf of a tree with this number, and the substituted loop around it.
@@ -39,18 +39,20 @@ pub record IsKept (stored : List StoredTensor) (s : Schedule) (path slots : List
   pub room : length values ≡ length s.names
   pub table : (leaf : ℕ) → p ≡ On leaf → IsLeafTable (world_of stored s) s.derived [] (pairs_at s.nest leaf) slots values
 
--- What the wheels need to turn: each loop has a slot and was not replaced, and has the derivations that follow from it.
+-- What the wheels need to turn: each loop has a slot and was not replaced, and has the derivations that follow from it; the
+-- guards are those of the last leaf.
 pub record CanTurn (s : Schedule) (w : Wheels) : Type 0 where
   pub within : AllByRecursion (λ wheel. wheel.var < length s.names) w.items.items
   pub loops : AllByRecursion (λ wheel. is_replaced s.derived wheel.var ≡ false) w.items.items
   pub count : length w.derived.items ≡ length w.items.items
   pub derived : AreDependents s.derived w.items.items w.derived.items
+  pub guards : w.guards.items ≡ (last_node s.nest).guards
 
 -- what a step of the wheels came to
-abbrev pub StepIs : Tests → Wheels → List ℕ → List ℕ → Outcome → Type 0
-StepIs t w old new Comes = (turned w.items.items old ≡ Some new) × (t.holds w.guards.items [] new ≡ true)
-StepIs t w old new Passes = (turned w.items.items old ≡ Some new) × (t.holds w.guards.items [] new ≡ false)
-StepIs t w old new Ends = new ≡ old
+abbrev pub StepIs : Tests → Tree → Wheels → List ℕ → List ℕ → Outcome → Type 0
+StepIs t tree w old new Comes = (turned w.items.items old ≡ Some new) × (t.holds (last_node tree) [] new ≡ true)
+StepIs t tree w old new Passes = (turned w.items.items old ≡ Some new) × (t.holds (last_node tree) [] new ≡ false)
+StepIs t tree w old new Ends = new ≡ old
 
 -- what steps of the wheels came to: the next visit of their leaf, or none, with the same items left
 abbrev pub TurnIs : List StoredTensor → Schedule → List ℕ → Wheels → List ℕ → List ℕ → Bool → Type 0

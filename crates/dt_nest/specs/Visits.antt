@@ -22,6 +22,10 @@ pub record LeafNode : Type 0 where
   pub guards : List ℕ
   pub kernel : Kernel
 
+-- the leaf with these parts
+abbrev pub leaf_node : Access → List Term → List ℕ → Kernel → LeafNode
+leaf_node lhs terms guards kernel = record { lhs = lhs; terms = terms; guards = guards; kernel = kernel }
+
 -- a substituted loop at a visit, and its valid values, ascending
 pub record Lanes : Type 0 where
   pub var : ℕ
@@ -68,17 +72,17 @@ pub data Item : Type 0 where
 abbrev pub value_in : World → List Derived → List Pair → List ℕ → Env
 value_in w ds pairs slots = val_of w ds (renamed pairs) (slice_index slots)
 
--- the tests of visits: whether a loop takes its value, and whether guards hold, where these renamings are in force and the
+-- the tests of visits: whether a loop takes its value, and whether a leaf is visited, where these renamings are in force and the
 -- loops have the values in the slots
 pub record Tests : Type 0 where
   pub takes : Option Walk → ℕ → List Pair → List ℕ → Bool
-  pub holds : List ℕ → List Pair → List ℕ → Bool
+  pub holds : LeafNode → List Pair → List ℕ → Bool
 
 -- the tests that a schedule asks for
 abbrev pub tests_of : World → List Derived → Tests
 tests_of w ds = record {
   takes = λ walk v pairs slots. takes w walk v (renamed pairs) (value_in w ds pairs slots);
-  holds = λ guards pairs slots. guards_hold w (value_in w ds pairs slots) guards;
+  holds = λ leaf pairs slots. guards_hold w (value_in w ds pairs slots) leaf.guards;
 }
 
 -- the items, with a reset of the workspace before them if there are any
@@ -97,20 +101,20 @@ lane_visit leaf scope slots v n [] = []
 lane_visit leaf scope slots v n (x ∷ valid) =
     IsVisit (record { leaf = leaf; around = scope.around; pairs = scope.pairs; slots = slots; lanes = Some (record { var = v; extent = n; valid = x ∷ valid }) }) ∷ []
 
--- whether a substituted loop may have the value x: it takes the value, and the guards of its leaf hold
-abbrev pub is_valid : Tests → Option Walk → ℕ → List ℕ → List Pair → List ℕ → ℕ → Bool
-is_valid t walk v guards pairs slots x = t.takes walk v pairs (slice_set slots v x) && t.holds guards pairs (slice_set slots v x)
+-- whether a substituted loop may have the value x: it takes the value, and its leaf is visited
+abbrev pub is_valid : Tests → Option Walk → ℕ → LeafNode → List Pair → List ℕ → ℕ → Bool
+is_valid t walk v leaf pairs slots x = t.takes walk v pairs (slice_set slots v x) && t.holds leaf pairs (slice_set slots v x)
 
 -- the valid values of a substituted loop, ascending
-abbrev pub valid_values : Tests → Option Walk → ℕ → ℕ → List ℕ → List Pair → List ℕ → List ℕ
-valid_values t walk v n guards pairs slots = filter (is_valid t walk v guards pairs slots) (range_with_len 0 n)
+abbrev pub valid_values : Tests → Option Walk → ℕ → ℕ → LeafNode → List Pair → List ℕ → List ℕ
+valid_values t walk v n leaf pairs slots = filter (is_valid t walk v leaf pairs slots) (range_with_len 0 n)
 
 -- the visit of a substituted loop over a leaf
 abbrev pub substituted_visits : Tests → Option Walk → ℕ → ℕ → Tree → Scope → List ℕ → List Item
 substituted_visits t walk v n (Loop u m inner body) scope slots = []
 substituted_visits t walk v n (Pre work more producer consumer) scope slots = []
 substituted_visits t walk v n (Leaf lhs terms guards kernel) scope slots =
-    lane_visit (record { lhs = lhs; terms = terms; guards = guards; kernel = kernel }) scope slots v n (valid_values t walk v n guards scope.pairs slots)
+    lane_visit (leaf_node lhs terms guards kernel) scope slots v n (valid_values t walk v n (leaf_node lhs terms guards kernel) scope.pairs slots)
 
 -- The visits of a tree that extend a path, where the slots have the values of the loops around. A loop gives those of its
 -- body for each value that it takes, in ascending order, and a precompute node those of its producer and then those of
@@ -122,8 +126,8 @@ tree_visits t (Loop v n walk body) scope slots path =
 tree_visits t (Pre work more producer consumer) scope slots path =
     with_reset work (tree_visits t producer (in_producer scope more) slots [] ++ tree_visits t consumer scope slots [])
 tree_visits t (Leaf lhs terms guards kernel) scope slots path =
-    if t.holds guards scope.pairs slots
-    then IsVisit (record { leaf = record { lhs = lhs; terms = terms; guards = guards; kernel = kernel }; around = scope.around; pairs = scope.pairs; slots = slots; lanes = None }) ∷ []
+    if t.holds (leaf_node lhs terms guards kernel) scope.pairs slots
+    then IsVisit (record { leaf = leaf_node lhs terms guards kernel; around = scope.around; pairs = scope.pairs; slots = slots; lanes = None }) ∷ []
     else []
 
 -- the slots before any loop is entered

@@ -7,6 +7,7 @@ use Rattle.std.specs.List.{list_any}
 use Rattle.dt_nest.specs.declared.derivations.Derived.{Derived}
 use Rattle.dt_nest.specs.Schedule.{Schedule}
 use Rattle.dt_nest.specs.Tables.{dependents}
+use Rattle.dt_nest.specs.Visits.{LeafNode, leaf_node}
 use Rattle.dt_nest.specs.Tree.{Tree, Loop, Pre, Leaf, leaf_count, is_stored_kernel}
 
 -- whether a tree is a leaf in loops that are neither walked nor substituted
@@ -29,11 +30,11 @@ last_wheels (Loop v n walk body) (x ∷ path) = last_wheels body path
 last_wheels (Pre work more producer consumer) path = last_wheels consumer []
 last_wheels (Leaf lhs terms guards kernel) path = []
 
--- the guards of the last leaf
-abbrev pub last_guards : Tree → List ℕ
-last_guards (Loop v n walk body) = last_guards body
-last_guards (Pre work more producer consumer) = last_guards consumer
-last_guards (Leaf lhs terms guards kernel) = guards
+-- the parts of the last leaf
+abbrev pub last_node : Tree → LeafNode
+last_node (Loop v n walk body) = last_node body
+last_node (Pre work more producer consumer) = last_node consumer
+last_node (Leaf lhs terms guards kernel) = leaf_node lhs terms guards kernel
 
 -- the slots after a step, where a wheel can go on
 abbrev pub turned : List Wheel → List ℕ → Option (List ℕ)
@@ -55,5 +56,5 @@ pub record AreWheels (s : Schedule) (path : List ℕ) (w : Wheels) : Type 0 wher
   pub items : w.items.items ≡ last_wheels s.nest path
   pub count : length w.derived.items ≡ length w.items.items
   pub derived : AreDependents s.derived w.items.items w.derived.items
-  pub guards : w.guards.items ≡ last_guards s.nest
+  pub guards : w.guards.items ≡ (last_node s.nest).guards
   pub leaf : w.leaf ≡ leaf_count s.nest - 1

@@ -7,18 +7,16 @@ ghost use Rattle.dt_nest.specs.Tables.{IsTable};
 ghost use Rattle.dt_nest.specs.World.{world_of};
 ghost use Rattle.dt_nest.specs.Lawful.{AreNamed};
 ghost use Rattle.dt_nest.specs.Naming.{pairs_in};
-ghost use Rattle.dt_nest.specs.Odometer.{guards_of};
+ghost use Rattle.dt_nest.specs.Odometer.{node_of};
 ghost use Rattle.dt_nest.specs.Tree.{tree_of};
 ghost use Rattle.dt_nest.specs.Values.{inside_tests};
 
 use crate::knowing::{hold, takes_stored};
-use crate::lanes::Slots;
 use crate::loops::{Nest, Walk};
 use crate::naming::Naming;
 use crate::odometer::Testing;
 use crate::parts::SchedParts;
 use crate::tables::{Table, tabulate};
-use crate::values::Sought;
 use dt_model::Locator;
 
 /// The parts of a schedule against tensors: the tests of its visits.
@@ -47,14 +45,14 @@ impl<L: Locator> Against<'_, L> {
                     names: naming,
                     values,
                 };
-                takes_stored(walk, var, naming, self.parts, self.loc, &known)
+                takes_stored(walk, var, self.parts, self.loc, &known)
             }
         }
     }
 
     /// Whether the guards of a leaf hold, from a table of all values there.
     pub fn holds_from(&self, leaf: &Nest, naming: &Naming, values: &[Option<u32>]) -> bool
-        ensures { (slots : List ℕ) → IsTable (world_of (L.tensors self.now.loc.now) (seen self.now.parts.now)) self.now.parts.now.derived (renamed (pairs_in naming.now)) slots values.now → result ≡ (inside_tests (world_of (L.tensors self.now.loc.now) (seen self.now.parts.now)) self.now.parts.now.derived).holds (guards_of (tree_of leaf.now)) (pairs_in naming.now) slots }
+        ensures { (slots : List ℕ) → IsTable (world_of (L.tensors self.now.loc.now) (seen self.now.parts.now)) self.now.parts.now.derived (renamed (pairs_in naming.now)) slots values.now → result ≡ (inside_tests (world_of (L.tensors self.now.loc.now) (seen self.now.parts.now)) self.now.parts.now.derived).holds (node_of (tree_of leaf.now)) (pairs_in naming.now) slots }
     {
         match leaf {
             Nest::Loop { .. } => true,
@@ -63,47 +61,6 @@ impl<L: Locator> Against<'_, L> {
                 let known = Table {
                     names: naming,
                     values,
-                };
-                hold(guards.as_slice(), self.parts.extents.as_slice(), &known)
-            }
-        }
-    }
-
-    /// Whether a loop takes its value. It takes no room, and seeks each value by itself.
-    pub fn takes_at(&self, walk: &Option<Walk>, var: u32, naming: &Naming, slots: &Slots) -> bool
-        requires named { AreNamed (seen self.now.parts.now) self.now.parts.now.derived }
-        requires tensors { length (L.tensors self.now.loc.now) ≡ length self.now.parts.now.tensors }
-        ensures { result ≡ (inside_tests (world_of (L.tensors self.now.loc.now) (seen self.now.parts.now)) self.now.parts.now.derived).takes walk.now var (pairs_in naming.now) slots.now }
-    {
-        match walk {
-            None => true,
-            Some(walk) => {
-                let known = Sought {
-                    parts: self.parts,
-                    loc: self.loc,
-                    naming,
-                    slots,
-                };
-                takes_stored(walk, var, naming, self.parts, self.loc, &known)
-            }
-        }
-    }
-
-    /// Whether the guards of a leaf hold. It takes no room, and seeks each value by itself.
-    pub fn holds_in(&self, leaf: &Nest, naming: &Naming, slots: &Slots) -> bool
-        requires named { AreNamed (seen self.now.parts.now) self.now.parts.now.derived }
-        requires tensors { length (L.tensors self.now.loc.now) ≡ length self.now.parts.now.tensors }
-        ensures { result ≡ (inside_tests (world_of (L.tensors self.now.loc.now) (seen self.now.parts.now)) self.now.parts.now.derived).holds (guards_of (tree_of leaf.now)) (pairs_in naming.now) slots.now }
-    {
-        match leaf {
-            Nest::Loop { .. } => true,
-            Nest::Pre { .. } => true,
-            Nest::Leaf { guards, .. } => {
-                let known = Sought {
-                    parts: self.parts,
-                    loc: self.loc,
-                    naming,
-                    slots,
                 };
                 hold(guards.as_slice(), self.parts.extents.as_slice(), &known)
             }
@@ -140,7 +97,7 @@ impl<L: Locator> Testing for Against<'_, L> {
                     names: naming,
                     values,
                 };
-                takes_stored(walk, var, naming, self.parts, self.loc, &known)
+                takes_stored(walk, var, self.parts, self.loc, &known)
             }
         }
     }

@@ -1,23 +1,12 @@
 //! What stands on the way to a leaf of a nest. Each call goes down the tree, and takes no memory.
 
-ghost use Rattle.std.specs.Prelude.{◌≡◌, ◌<◌, ◌^◌, ◌++◌, length, slice_get};
-ghost use Rattle.dt_nest.specs.Schedule.{seen};
+ghost use Rattle.std.specs.Prelude.{◌≡◌, ◌<◌, ◌^◌, slice_get};
 ghost use Rattle.dt_nest.specs.Tree.{tree_of, leaf_count};
-ghost use Rattle.dt_nest.specs.World.{world_of};
-ghost use Rattle.dt_nest.specs.Lawful.{AreNamed};
-ghost use Rattle.dt_nest.specs.Naming.{pairs_in};
-ghost use Rattle.dt_nest.specs.Values.{inside_in, inside_tests};
-ghost use Rattle.dt_nest.specs.Odometer.{guards_of, pairs_at, works_at};
-ghost use Rattle.dt_nest.specs.Visits.{is_valid};
-ghost use Rattle.dt_nest.specs.Branch.{leaf_at, substituted_at, valid_at};
+ghost use Rattle.dt_nest.specs.Odometer.{works_at};
+ghost use Rattle.dt_nest.specs.Branch.{leaf_at, substituted_at};
 
-use crate::against::Against;
-use crate::lanes::{Lane, Slots};
-use crate::loops::{Nest, Walk};
-use crate::naming::Naming;
+use crate::loops::Nest;
 use crate::odometer::{has_kernel, leaves};
-use crate::values::value;
-use dt_model::Locator;
 
 /// A substituted loop and its extent.
 #[derive(Clone, Copy, Debug)]
@@ -109,114 +98,5 @@ pub fn substituted_of(nest: &Nest, leaf: u32) -> Option<Substituted>
             }
         }
         Nest::Leaf { .. } => None,
-    }
-}
-
-/// The value of a variable at a leaf, and none where a variable of a split on the way to it is outside.
-pub fn value_of<L: Locator>(
-    nest: &Nest,
-    naming: &Naming,
-    against: &Against<L>,
-    slots: &Slots,
-    leaf: u32,
-    var: u32,
-) -> Option<u32>
-    requires few { leaf_count (tree_of nest.now) < 2 ^ 32 }
-    requires named { AreNamed (seen against.now.parts.now) against.now.parts.now.derived }
-    requires tensors { length (L.tensors against.now.loc.now) ≡ length against.now.parts.now.tensors }
-    ensures { result ≡ inside_in (world_of (L.tensors against.now.loc.now) (seen against.now.parts.now)) against.now.parts.now.derived (pairs_in naming.now ++ pairs_at (tree_of nest.now) leaf) slots.now var }
-{
-    match nest {
-        Nest::Loop { body, .. } => value_of(body, naming, against, slots, leaf, var),
-        Nest::Pre {
-            pairs,
-            producer,
-            consumer,
-            ..
-        } => {
-            let count = leaves(producer);
-            if leaf < count {
-                let inner = Naming::Under(pairs.as_slice(), &*naming);
-                value_of(producer, &inner, against, slots, leaf, var)
-            } else {
-                value_of(consumer, naming, against, slots, leaf - count, var)
-            }
-        }
-        Nest::Leaf { .. } => {
-            let parts = against.parts;
-            value(
-                parts.derived.as_slice(),
-                parts,
-                against.loc,
-                naming,
-                slots,
-                naming.name(var),
-            )
-        }
-    }
-}
-
-/// Whether a substituted loop over a leaf may have a value: it takes the value, and the guards of the leaf hold.
-fn may_have<L: Locator>(
-    body: &Nest,
-    walk: &Option<Walk>,
-    lane: Lane,
-    naming: &Naming,
-    against: &Against<L>,
-    slots: &[u32],
-) -> bool
-    requires named { AreNamed (seen against.now.parts.now) against.now.parts.now.derived }
-    requires tensors { length (L.tensors against.now.loc.now) ≡ length against.now.parts.now.tensors }
-    ensures { result ≡ is_valid (inside_tests (world_of (L.tensors against.now.loc.now) (seen against.now.parts.now)) against.now.parts.now.derived) walk.now lane.var (guards_of (tree_of body.now)) (pairs_in naming.now) slots.now lane.value }
-{
-    let slots = Slots::with_lane(slots, lane);
-    against.takes_at(walk, lane.var, naming, &slots) && against.holds_in(body, naming, &slots)
-}
-
-/// Whether a number is a valid value of the substituted loop around a leaf.
-pub fn is_valid_at<L: Locator>(
-    nest: &Nest,
-    naming: &Naming,
-    against: &Against<L>,
-    slots: &[u32],
-    leaf: u32,
-    x: u32,
-) -> bool
-    requires few { leaf_count (tree_of nest.now) < 2 ^ 32 }
-    requires named { AreNamed (seen against.now.parts.now) against.now.parts.now.derived }
-    requires tensors { length (L.tensors against.now.loc.now) ≡ length against.now.parts.now.tensors }
-    ensures { result ≡ valid_at (inside_tests (world_of (L.tensors against.now.loc.now) (seen against.now.parts.now)) against.now.parts.now.derived) (tree_of nest.now) (pairs_in naming.now) slots.now leaf x }
-{
-    match nest {
-        Nest::Loop {
-            var,
-            walk,
-            body,
-            ..
-        } => {
-            if has_kernel(body) {
-                let lane = Lane {
-                    var: *var,
-                    value: x,
-                };
-                return may_have(body, walk, lane, naming, against, slots);
-            }
-            is_valid_at(body, naming, against, slots, leaf, x)
-        }
-        Nest::Pre {
-            pairs,
-            producer,
-            consumer,
-            ..
-        } => {
-            let count = leaves(producer);
-            if leaf < count {
-                let inner = Naming::Under(pairs.as_slice(), &*naming);
-                is_valid_at(producer, &inner, against, slots, leaf, x)
-            } else {
-                is_valid_at(consumer, naming, against, slots, leaf - count, x)
-            }
-        }
-        Nest::Leaf { .. } => false,
     }
 }

@@ -6,43 +6,28 @@ ghost use Rattle.dt_nest.specs.Schedule.{seen};
 ghost use Rattle.dt_nest.specs.Meaning.{renamed, take_through};
 ghost use Rattle.dt_nest.specs.World.{world_of};
 ghost use Rattle.dt_nest.specs.Naming.{pairs_in};
+ghost use Rattle.dt_nest.specs.Tables.{named};
 ghost use Rattle.dt_nest.specs.Values.{all_inside, is_below, takes_inside};
 ghost use Rattle.dt_nest.specs.Prefix.{Filled};
 
 use crate::loops::Walk;
-use crate::naming::Naming;
+use crate::naming::{Naming, Renaming};
 use crate::parts::SchedParts;
+use crate::tables::Table;
 use crate::values::number_at;
 use dt_model::Locator;
 
-/// What knows the values of variables at a place.
-pub trait Known {
-    ghost use Rattle.std.specs.Prelude.{ℕ, Option};
-
-    /// When it may be asked.
-    ghost ready: { Self → Type 0 };
-
-    ghost values: { Self → ℕ → Option ℕ };
-
-    /// The value of a variable, and none where a variable of a split on the way to it is not below its extent.
-    fn value_at(&self, u: u32) -> Option<u32>
-        requires { ready self.now }
-        ensures { result ≡ values self.now u };
-}
-
 /// Puts the values of the variables of a walked access up to its loop into an array, from a place on. The answer is the
 /// place behind them, and none where a variable is outside.
-fn prefix<K: Known>(
+fn prefix(
     vars: &[u32],
     var: u32,
-    naming: &Naming,
-    known: &K,
+    known: &Table<Naming>,
     at: usize,
     coords: &mut [u32],
 ) -> Option<usize>
-    requires ready { K.ready known.now }
     requires room { at + length vars.now ≤ length coords.old }
-    ensures { Filled (all_inside (K.values known.now) (take_through (λ u. nat_eq (renamed (pairs_in naming.now) u) var) vars.now)) at coords.old coords.new result }
+    ensures { Filled (all_inside (named known.now.values.now (renamed (pairs_in known.now.names.now))) (take_through (λ u. nat_eq (renamed (pairs_in known.now.names.now) u) var) vars.now)) at coords.old coords.new result }
 {
     match vars.split_first() {
         None => Some(at),
@@ -50,34 +35,32 @@ fn prefix<K: Known>(
             None => None,
             Some(x) => {
                 coords[at] = x;
-                if naming.name(*u) == var {
+                if known.names.name(*u) == var {
                     return Some(at + 1);
                 }
-                prefix(rest, var, naming, known, at + 1, coords)
+                prefix(rest, var, known, at + 1, coords)
             }
         },
     }
 }
 
 /// Whether a walked loop takes its value.
-pub fn takes_stored<K: Known, L: Locator>(
+pub fn takes_stored<L: Locator>(
     walk: &Walk,
     var: u32,
-    naming: &Naming,
     parts: &SchedParts,
     loc: &L,
-    known: &K,
+    known: &Table<Naming>,
 ) -> bool
-    requires ready { K.ready known.now }
-    requires tensors { length (L.tensors loc.now) ≡ length parts.now.tensors }
-    ensures { result ≡ takes_inside (world_of (L.tensors loc.now) (seen parts.now)) (Some walk.now) var (renamed (pairs_in naming.now)) (K.values known.now) }
+    requires { length (L.tensors loc.now) ≡ length parts.now.tensors }
+    ensures { result ≡ takes_inside (world_of (L.tensors loc.now) (seen parts.now)) (Some walk.now) var (renamed (pairs_in known.now.names.now)) (named known.now.values.now (renamed (pairs_in known.now.names.now))) }
 {
     let vars = walk.vars.as_slice();
     if walk.tensor as usize >= parts.tensors.as_slice().len() || vars.len() > 4 {
         return false;
     }
     let mut coords = [0u32; 4];
-    match prefix(vars, var, naming, known, 0, &mut coords) {
+    match prefix(vars, var, known, 0, &mut coords) {
         None => false,
         Some(count) => loc.has_prefix(walk.tensor, &coords[..count]),
     }
@@ -94,9 +77,8 @@ fn is_below(bound: u32, value: Option<u32>) -> bool
 }
 
 /// Whether guards are below their extents, and no variable on the way to them outside.
-pub fn hold<K: Known>(guards: &[u32], extents: &[u32], known: &K) -> bool
-    requires { K.ready known.now }
-    ensures { result ≡ list_all (λ g. is_below (slice_index extents.now g) (K.values known.now g)) guards.now }
+pub fn hold<N: Renaming>(guards: &[u32], extents: &[u32], known: &Table<N>) -> bool
+    ensures { result ≡ list_all (λ g. is_below (slice_index extents.now g) (named known.now.values.now (N.names known.now.names.now) g)) guards.now }
 {
     for guard in guards {
         if !is_below(number_at(extents, *guard), known.value_at(*guard)) {

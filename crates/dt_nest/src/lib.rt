@@ -1,4 +1,7 @@
-//! Loop trees: schedules, what they mean, their visits, and the law that every command keeps.
+//! Loop trees. In: the parts of a schedule, which its type keeps lawful. Out: its visits one by one, by `Visits::next`,
+//! with the values of variables; what is asked of a nest, each by its definition; its text, by `put_nest`. Laws: the visits
+//! add what the schedule means (`visits_add_the_sum`), and so they do along every path. The trait `Rewrite` says what a
+//! command owes.
 #![tactic(auto)]
 
 mod against;
@@ -10,14 +13,15 @@ mod copies;
 mod dependents;
 mod derivations;
 mod knowing;
-mod lanes;
 mod laws;
 mod loops;
 mod name_tables;
 mod naming;
+mod nest_text;
 mod odometer;
 #[cfg(test)]
 mod odometer_tests;
+mod part_names;
 mod parts;
 mod path_laws;
 mod points;
@@ -40,12 +44,15 @@ pub use derivations::{Derivations, Derive, Derived};
 pub use laws::{fitting_are_zeros, sum_reads_tensors, visits_add_the_sum};
 pub use loops::{Kernel, Nest, Pair, Pairs, Walk, walk_copied};
 pub use name_tables::NameTable;
+pub use nest_text::{put_derived, put_nest};
 pub use odometer::has_kernel;
+pub use part_names::{name_of, tensor_name, work_name};
 pub use parts::{Moved, MovedList, SchedParts, Work, Works};
 pub use path_laws::{
     assignments_are_paths, path_sums_follow, path_sums_read_tensors, paths_add_the_sum,
     paths_are_visited, paths_grow, root_sum, sums_follow_visited, sums_over_paths, task_has_loops,
-    unvisited_adds_nothing, visits_follow_paths, visits_follow_visited, visits_over_paths,
+    unvisited_adds_nothing, visits_extend_paths, visits_follow_paths, visits_follow_visited,
+    visits_over_paths,
 };
 pub use points::Point;
 pub use progress::Visit;

@@ -127,14 +127,12 @@ impl Nest {
                 walk,
                 body,
             } => {
-                let walk = walk_copied(alloc, walk)?;
                 let inner = body.copied(alloc)?;
-                let body = Box::new(alloc, inner)?;
                 Ok(Nest::Loop {
                     var: *var,
                     extent: *extent,
-                    walk,
-                    body,
+                    walk: walk_copied(alloc, walk)?,
+                    body: Box::new(alloc, inner)?,
                 })
             }
             Nest::Pre {
@@ -143,16 +141,13 @@ impl Nest {
                 producer,
                 consumer,
             } => {
-                let pairs = pairs.copied(alloc)?;
                 let first = producer.copied(alloc)?;
-                let producer = Box::new(alloc, first)?;
                 let second = consumer.copied(alloc)?;
-                let consumer = Box::new(alloc, second)?;
                 Ok(Nest::Pre {
                     work: *work,
-                    pairs,
-                    producer,
-                    consumer,
+                    pairs: pairs.copied(alloc)?,
+                    producer: Box::new(alloc, first)?,
+                    consumer: Box::new(alloc, second)?,
                 })
             }
             Nest::Leaf {
@@ -160,17 +155,12 @@ impl Nest {
                 terms,
                 guards,
                 kernel,
-            } => {
-                let lhs = access_copied(alloc, lhs)?;
-                let terms = terms_copied(alloc, terms)?;
-                let guards = vars_copied(alloc, guards)?;
-                Ok(Nest::Leaf {
-                    lhs,
-                    terms,
-                    guards,
-                    kernel: *kernel,
-                })
-            }
+            } => Ok(Nest::Leaf {
+                lhs: access_copied(alloc, lhs)?,
+                terms: terms_copied(alloc, terms)?,
+                guards: vars_copied(alloc, guards)?,
+                kernel: *kernel,
+            }),
         }
     }
 }

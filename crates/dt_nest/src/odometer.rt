@@ -5,7 +5,7 @@ ghost use Rattle.std.specs.List.{list_any, range_with_len};
 ghost use Rattle.dt_nest.specs.Tree.{Loop, Pre, tree_of, leaf_count, is_kernel_leaf};
 ghost use Rattle.dt_nest.specs.Naming.{pairs_in};
 ghost use Rattle.dt_nest.specs.Visits.{Tests, is_valid, IsPathIn};
-ghost use Rattle.dt_nest.specs.Odometer.{AreZero, HaveSlots, IsAt, end_on, guards_of, Finds, Enters, FindsFrom, Steps};
+ghost use Rattle.dt_nest.specs.Odometer.{AreZero, HaveSlots, IsAt, end_on, node_of, Finds, Enters, FindsFrom, Steps};
 
 use crate::loops::{Kernel, Nest, Pair, Walk};
 use crate::naming::Naming;
@@ -49,7 +49,7 @@ pub trait Testing {
         requires ready { ready self.now }
         requires slots { length slots.now ≡ room self.now }
         requires values { length values.old ≡ room self.now }
-        ensures holds { result ≡ (tests self.now).holds (guards_of (tree_of leaf.now)) (pairs_in naming.now) slots.now }
+        ensures holds { result ≡ (tests self.now).holds (node_of (tree_of leaf.now)) (pairs_in naming.now) slots.now }
         ensures values { length values.new ≡ length values.old };
 }
 
@@ -118,7 +118,7 @@ fn is_lane<T: Testing>(
     requires ready { T.ready route.now.tests.now }
     requires slots { length slots.now ≡ T.room route.now.tests.now }
     requires values { length values.old ≡ T.room route.now.tests.now }
-    ensures valid { result ≡ ((T.tests route.now.tests.now).takes head.now.walk.now head.now.var (pairs_in route.now.naming.now) slots.now && (T.tests route.now.tests.now).holds (guards_of (tree_of head.now.body.now)) (pairs_in route.now.naming.now) slots.now) }
+    ensures valid { result ≡ ((T.tests route.now.tests.now).takes head.now.walk.now head.now.var (pairs_in route.now.naming.now) slots.now && (T.tests route.now.tests.now).holds (node_of (tree_of head.now.body.now)) (pairs_in route.now.naming.now) slots.now) }
     ensures values { length values.new ≡ length values.old }
 {
     route
@@ -140,7 +140,7 @@ fn has_lane<T: Testing>(
     requires zero { slice_index slots.old head.now.var ≡ 0 }
     requires slots { length slots.old ≡ T.room route.now.tests.now }
     requires values { length values.old ≡ T.room route.now.tests.now }
-    ensures found { result ≡ list_any (is_valid (T.tests route.now.tests.now) head.now.walk.now head.now.var (guards_of (tree_of head.now.body.now)) (pairs_in route.now.naming.now) slots.old) (range_with_len 0 extent) }
+    ensures found { result ≡ list_any (is_valid (T.tests route.now.tests.now) head.now.walk.now head.now.var (node_of (tree_of head.now.body.now)) (pairs_in route.now.naming.now) slots.old) (range_with_len 0 extent) }
     ensures slots { slots.new ≡ slots.old }
     ensures values { length values.new ≡ length values.old }
 {

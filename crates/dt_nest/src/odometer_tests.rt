@@ -33,7 +33,7 @@ impl Testing for Rule {
     ghost use Rattle.std.specs.Prelude.{◌+◌, ◌*◌, ◌%◌, ◌||◌, is_none, nat_eq, nat_lt, slice_index};
     ghost use Rattle.dt_nest.specs.Visits.{Tests};
 
-    ghost tests = { λ r. record { takes = λ walk v pairs slots. is_none walk || nat_eq (slice_index slots v % 2) 1; holds = λ guards pairs slots. nat_lt (2 * slice_index slots 0 + slice_index slots 1) r.limit } };
+    ghost tests = { λ r. record { takes = λ walk v pairs slots. is_none walk || nat_eq (slice_index slots v % 2) 1; holds = λ leaf pairs slots. nat_lt (2 * slice_index slots 0 + slice_index slots 1) r.limit } };
 
     ghost ready = { λ r. Unit {0} };
 

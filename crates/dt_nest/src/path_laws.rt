@@ -1,11 +1,16 @@
 //! Laws of the visits under a path, and of what they add.
 
-ghost use Rattle.dt_nest.specs.PathLaws.{AssignmentsArePaths, PathSumsFollow, PathSumsReadTensors, PathsAddTheSum, RootSum, TaskHasLoops, VisitsFollowPaths};
+ghost use Rattle.dt_nest.specs.PathLaws.{AssignmentsArePaths, PathSumsFollow, PathSumsReadTensors, PathsAddTheSum, RootSum, TaskHasLoops, VisitsExtendPaths, VisitsFollowPaths};
 ghost use Rattle.dt_nest.specs.PathSteps.{PathsAreVisited, PathsGrow, SumsFollowVisited, SumsOverPaths, UnvisitedAddsNothing, VisitsFollowVisited, VisitsOverPaths};
 
 /// The visits under a path are those under its next values, one after another.
 pub fn visits_follow_paths()
     ensures { VisitsFollowPaths }
+{}
+
+/// The visits of leaves under a path are those of the whole nest that extend it.
+pub fn visits_extend_paths()
+    ensures { VisitsExtendPaths }
 {}
 
 /// The visits under a path are those under its next values that some visit has.

@@ -139,7 +139,7 @@ fn step<L: Locator>(
     requires room { length slots.old ≡ length against.now.parts.now.names }
     requires values { length values.old ≡ length against.now.parts.now.names }
     requires table { IsTable (world_of (L.tensors against.now.loc.now) (seen against.now.parts.now)) against.now.parts.now.derived (λ u. u) slots.old values.old }
-    ensures steps { StepIs (run_tests (L.tensors against.now.loc.now) (seen against.now.parts.now)) wheels.now slots.old slots.new result }
+    ensures steps { StepIs (run_tests (L.tensors against.now.loc.now) (seen against.now.parts.now)) (tree_of against.now.parts.now.nest) wheels.now slots.old slots.new result }
     ensures table { IsTable (world_of (L.tensors against.now.loc.now) (seen against.now.parts.now)) against.now.parts.now.derived (λ u. u) slots.new values.new }
     ensures room { length slots.new ≡ length slots.old }
     ensures values { length values.new ≡ length values.old }

@@ -5,12 +5,10 @@ ghost use Rattle.dt_nest.specs.Schedule.{seen};
 ghost use Rattle.dt_nest.specs.World.{world_of};
 ghost use Rattle.dt_nest.specs.Lawful.{AreNamed, IsBounded};
 ghost use Rattle.dt_nest.specs.Values.{derived_inside, sum_inside};
-ghost use Rattle.dt_nest.specs.Tables.{IsTable, refilled, tabled};
+ghost use Rattle.dt_nest.specs.Tables.{IsTable, named, refilled, tabled};
 
 use crate::against::Against;
 use crate::derivations::{Derive, Derived};
-use crate::knowing::Known;
-use crate::lanes::Lane;
 use crate::naming::{Renaming, Unrenamed};
 use crate::parts::SchedParts;
 use crate::values::{coordinate, quotient, rest_of, split_value};
@@ -35,31 +33,27 @@ pub struct Table<'a, N: Renaming> {
     pub values: &'a [Option<u32>],
 }
 
-impl<N: Renaming> Known for Table<'_, N> {
-    ghost use Rattle.dt_nest.specs.Tables.{tabled};
-
-    ghost ready = { λ t. Unit {0} };
-
-    ghost values = { λ t u. tabled t.values.now (N.names t.names.now u) };
-
-    fn value_at(&self, u: u32) -> Option<u32> {
+impl<N: Renaming> Table<'_, N> {
+    /// The value of a variable, and none where a variable of a split on the way to it is not below its extent.
+    pub fn value_at(&self, u: u32) -> Option<u32>
+        ensures { result ≡ named self.now.values.now (N.names self.now.names.now) u }
+    {
         tabled(self.values, self.names.name_of(u))
     }
 }
 
 /// The value that a derivation gives, from the values of what it names.
 #[tactic(auto, using(crate::proofs::Rotated::sums))]
-fn derived_from<L: Locator, K: Known>(
+fn derived_from<L: Locator, N: Renaming>(
     how: &Derive,
     v: u32,
     parts: &SchedParts,
     loc: &L,
-    known: &K,
+    known: &Table<N>,
 ) -> Option<u32>
-    requires ready { K.ready known.now }
     requires bounded { IsBounded (seen parts.now) v how.now }
     requires tensors { length (L.tensors loc.now) ≡ length parts.now.tensors }
-    ensures { result ≡ derived_inside (world_of (L.tensors loc.now) (seen parts.now)) v how.now (K.values known.now) }
+    ensures { result ≡ derived_inside (world_of (L.tensors loc.now) (seen parts.now)) v how.now (named known.now.values.now (N.names known.now.names.now)) }
 {
     match how {
         Derive::Split {
@@ -95,10 +89,9 @@ fn derived_from<L: Locator, K: Known>(
 }
 
 /// The sum of a number and the values of loops modulo an extent.
-fn rotated_from<K: Known>(start: u32, by: &[u32], extent: u32, known: &K) -> Option<u32>
-    requires ready { K.ready known.now }
-    requires some { 0 < extent }
-    ensures { result ≡ option_map (λ x. x % extent) (sum_inside (K.values known.now) (Some start) by.now) }
+fn rotated_from<N: Renaming>(start: u32, by: &[u32], extent: u32, known: &Table<N>) -> Option<u32>
+    requires { 0 < extent }
+    ensures { result ≡ option_map (λ x. x % extent) (sum_inside (named known.now.values.now (N.names known.now.names.now)) (Some start) by.now) }
 {
     let mut sum = start % extent;
     for u in by {
@@ -184,6 +177,13 @@ pub fn tabulate<L: Locator, N: Renaming>(
 {
     fill_slots(slots, values);
     fill_derived(parts.derived.as_slice(), parts, loc, names, values);
+}
+
+/// A substituted loop with one of its values.
+#[derive(Clone, Copy, Debug)]
+pub struct Lane {
+    pub var: u32,
+    pub value: u32,
 }
 
 /// Makes the values of all variables, from the slots and one value of a substituted loop.

@@ -16,11 +16,10 @@ ghost use Rattle.dt_nest.specs.Visited.{HasLaneTable, IsVisited};
 
 use crate::against::Against;
 use crate::branches::{Substituted, leaf_of, substituted_of};
-use crate::lanes::Lane;
 use crate::loops::{Nest, Pair};
 use crate::naming::Naming;
 use crate::odometer::{has_kernel, leaves};
-use crate::tables::{tabled, tabulate, tabulate_lane};
+use crate::tables::{Lane, tabled, tabulate, tabulate_lane};
 use dt_model::Locator;
 
 /// A leaf, and the substituted loop around it.

@@ -1,16 +1,15 @@
 //! The visits of a schedule's nest, one after another.
 
-ghost use Rattle.std.specs.Prelude.{◌≡◌, ◌<◌, true, IfOk, Some, None, length, option_map, replicate, slice_index, unwrap_or};
+ghost use Rattle.std.specs.Prelude.{◌≡◌, ◌<◌, IfOk, Some, None, length, option_map, replicate, slice_index, unwrap_or};
 ghost use Rattle.std.specs.Bool.{OnTrue};
 ghost use Rattle.dt_nest.specs.Tree.{tree_of};
 ghost use Rattle.dt_nest.specs.FitsStored.{FitsStored};
 ghost use Rattle.dt_nest.specs.Visits.{IsPath};
-ghost use Rattle.dt_nest.specs.Point.{ArePointValues, HasValueAt, IsPoint, IsPointOf, env_at};
-ghost use Rattle.dt_nest.specs.Run.{AreAscending, AreValued, Goes, HasLaneValue, HasValue, HaveLoopValues, HaveTestValues, IsAtLeaf, IsExtent, IsLaneValue, IsLeafOf, IsValue, OnLanes, OnVisit, SameNest, answer_of, is_among, run_over};
+ghost use Rattle.dt_nest.specs.Point.{ArePointValues, HasValueAt, IsPointOf, env_at};
+ghost use Rattle.dt_nest.specs.Run.{AreAscending, AreValued, Goes, HasValue, HaveLoopValues, HaveTestValues, IsAtLeaf, IsExtent, IsLeafOf, IsValue, OnLanes, OnVisit, SameNest, answer_of, is_among, run_over};
 
 use crate::against::Against;
-use crate::branches::{Substituted, is_valid_at, value_of};
-use crate::lanes::{Lane, Slots};
+use crate::branches::Substituted;
 use crate::loops::Nest;
 use crate::naming::Naming;
 use crate::points::Point;
@@ -152,19 +151,6 @@ impl<'s, L: Locator> Visits<'s, L> {
         self.progress.answer()
     }
 
-    /// The value of a variable at a point of the last visit: the visit itself, or a valid value of its substituted loop.
-    pub fn value_at(&self, lane: Option<u32>, var: u32) -> u64
-        requires point { IsPoint self.now lane }
-        requires valued { HasValueAt self.now lane var }
-        ensures value { result ≡ env_at self.now lane var }
-        ensures below { result < slice_index self.now.sched.extents var }
-    {
-        match lane {
-            None => self.eval(var),
-            Some(x) => self.eval_lane(x, var),
-        }
-    }
-
     /// Room for the values of all variables at a value of a substituted loop.
     pub fn lane_room(&self, alloc: Global) -> Result<Vec<Option<u32>>, NoMemory>
         ensures { IfOk result (λ values. length values.items ≡ length self.now.sched.names) }
@@ -217,7 +203,8 @@ impl<'s, L: Locator> Visits<'s, L> {
     pub fn value_in(&self, point: &Point, var: u32) -> u64
         requires point { IsPointOf self.now point.now }
         requires valued { HasValueAt self.now point.now.lane var }
-        ensures { result ≡ env_at self.now point.now.lane var }
+        ensures value { result ≡ env_at self.now point.now.lane var }
+        ensures below { result < slice_index self.now.sched.extents var }
     {
         number_of(tabled(point.values, var))
     }
@@ -242,26 +229,6 @@ impl<'s, L: Locator> Visits<'s, L> {
         extent_of(self.leaf.substituted)
     }
 
-    /// Whether a number below the extent is a valid value of the last visit's substituted loop.
-    pub fn valid(&self, x: u32) -> bool
-        requires { OnLanes self.now (λ lanes. x < lanes.extent) }
-        ensures { OnLanes self.now (λ lanes. result ≡ is_among x lanes.valid) }
-    {
-        let sched = self.sched;
-        let against = Against {
-            parts: sched.parts(),
-            loc: self.loc,
-        };
-        is_valid_at(
-            &against.parts.nest,
-            &Naming::Root,
-            &against,
-            self.slots.as_slice(),
-            self.progress.leaf(),
-            x,
-        )
-    }
-
     /// The value of a variable at the last visit, whatever value a substituted loop has.
     pub fn eval(&self, var: u32) -> u64
         requires { HasValue self.now var }
@@ -269,32 +236,5 @@ impl<'s, L: Locator> Visits<'s, L> {
         ensures below { result < slice_index self.now.sched.extents var }
     {
         number_of(tabled(self.values.as_slice(), var))
-    }
-
-    /// The value of a variable at the last visit, where the substituted loop has a valid value.
-    pub fn eval_lane(&self, x: u32, var: u32) -> u64
-        requires valid { OnLanes self.now (λ lanes. is_among x lanes.valid ≡ true) }
-        requires valued { HasLaneValue self.now var }
-        ensures value { IsLaneValue self.now x var result }
-        ensures below { result < slice_index self.now.sched.extents var }
-    {
-        let sched = self.sched;
-        let against = Against {
-            parts: sched.parts(),
-            loc: self.loc,
-        };
-        let nest = &against.parts.nest;
-        let leaf = self.progress.leaf();
-        match self.leaf.substituted {
-            None => 0,
-            Some(substituted) => {
-                let lane = Lane {
-                    var: substituted.var,
-                    value: x,
-                };
-                let slots = Slots::with_lane(self.slots.as_slice(), lane);
-                number_of(value_of(nest, &Naming::Root, &against, &slots, leaf, var))
-            }
-        }
     }
 }

@@ -6,7 +6,7 @@ ghost use Rattle.dt_nest.specs.Tree.{leaf_count, tree_of};
 ghost use Rattle.dt_nest.specs.Schedule.{seen};
 ghost use Rattle.dt_nest.specs.Lawful.{IsLawful};
 ghost use Rattle.dt_nest.specs.Tables.{tabled};
-ghost use Rattle.dt_nest.specs.Wheels.{AreWheels, is_plain, is_wheel, last_guards, last_wheels, turned, wheels_of};
+ghost use Rattle.dt_nest.specs.Wheels.{AreWheels, is_plain, is_wheel, last_node, last_wheels, turned, wheels_of};
 
 use crate::dependents::wheel_dependents;
 use crate::derivations::Derivations;
@@ -117,7 +117,7 @@ fn last_wheels(alloc: Global, nest: &Nest, path: &[u32]) -> Result<Vec<Wheel>, N
 
 /// The guards of the last leaf.
 fn last_guards(nest: &Nest) -> &[u32]
-    ensures { result.now ≡ last_guards (tree_of nest.now) }
+    ensures { result.now ≡ (last_node (tree_of nest.now)).guards }
 {
     match nest {
         Nest::Loop { body, .. } => last_guards(body),

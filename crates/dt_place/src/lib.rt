@@ -1,4 +1,5 @@
-//! The machine, the blocks of an extent, where tensors are placed, and the words that each node is home to.
+//! In: machine and place lines. Out: the machine or the placement, or the first cause, by `parse_machine` and
+//! `parse_place`; and the words that each node is home to, by `home` and `homes_on`.
 #![tactic(auto)]
 
 mod blocks;

@@ -9,8 +9,8 @@ use Rattle.dt_nest.proofs.Each.{all_map, all_filter, all_append, below_all}
 use Rattle.dt_plan.specs.Listed.{IsIn}
 use Rattle.dt_plan.proofs.Ascending.{all_from_in, in_flat}
 use Rattle.dt_plan.proofs.Stretches.{Rises, Stretch, no_stretch, one_stretch, wider, joined, shorter, row_of, gathered, gathered_map}
-use Rattle.dt_plan.specs.Brackets.{Outline, moved_here, copies_on, folds_on, opened, closed, block, paths_on, has_some, works_on, node_ops, brackets}
-use Rattle.dt_plan.proofs.Outlines.{last_end, path_key, IsOutline, paths_from, visited, root_paths, paths_are}
+use Rattle.dt_plan.specs.Brackets.{Outline, moved_here, copies_on, folds_on, opened, closed, block, paths_on, has_some, works_on, node_ops, brackets, paths_from, visited}
+use Rattle.dt_plan.proofs.Outlines.{last_end, path_key, IsOutline, root_paths, paths_are}
 
 -- Lists -----------------------------------------------------------------------------------------------------------------
 

@@ -7,8 +7,8 @@ use Rattle.dt_base.specs.Ranges.{below}
 use Rattle.dt_nest.proofs.Each.{below_all}
 use Rattle.dt_plan.specs.Listed.{IsIn}
 use Rattle.dt_plan.proofs.Ascending.{all_in, in_append, in_left, in_right, in_flat, flat_in, in_map, map_in, in_filter, filter_in}
-use Rattle.dt_plan.specs.Brackets.{Outline, pieces_on, moves_on, named_ops, moved_here, copies_on, folds_on, opened, closed, block, paths_on, has_some, busy_nodes, works_of, works_on, node_ops, brackets}
-use Rattle.dt_plan.proofs.Outlines.{IsOutline, paths_from, visited, paths_are}
+use Rattle.dt_plan.specs.Brackets.{Outline, pieces_on, moves_on, named_ops, moved_here, copies_on, folds_on, opened, closed, block, paths_on, has_some, busy_nodes, works_of, works_on, node_ops, brackets, paths_from, visited}
+use Rattle.dt_plan.proofs.Outlines.{IsOutline, paths_are}
 use Rattle.dt_plan.proofs.BracketsAscend.{paths_long}
 
 -- each number below n is among them

@@ -34,13 +34,13 @@ cut_product = record {
 }
 
 -- the blocks of a matrix on four nodes
-abbrev block : ℕ → List ℕ
+abbrev pub block : ℕ → List ℕ
 block zero = 0 ∷ 1 ∷ 4 ∷ 5 ∷ []
 block (suc zero) = 2 ∷ 3 ∷ 6 ∷ 7 ∷ []
 block (suc (suc zero)) = 8 ∷ 9 ∷ 12 ∷ 13 ∷ []
 block (suc (suc (suc n))) = 10 ∷ 11 ∷ 14 ∷ 15 ∷ []
 
-abbrev four_nodes : Layout
+abbrev pub four_nodes : Layout
 four_nodes = record {
   machine = record { levels = (2 ∷ 2 ∷ []) ∷ []; memory = None };
   stored = matrix 4 ∷ matrix 4 ∷ matrix 4 ∷ [];
@@ -82,7 +82,7 @@ four_traffic = refl
 -- Blocks of unequal sizes -----------------------------------------------------------------------------------------------
 
 -- a(i) = b(i) + 10 with five numbers on four nodes: blocks of 2, 2, 1 and 0
-abbrev unequal : Layout
+abbrev pub unequal : Layout
 unequal = record {
   machine = record { levels = (4 ∷ []) ∷ []; memory = None };
   stored = vector 5 ∷ vector 5 ∷ [];
@@ -128,7 +128,7 @@ unequal_traffic = refl
 -- A home on each node ---------------------------------------------------------------------------------------------------
 
 -- A(i,j) = 3 * B(i,j) where each of four nodes has all of A, and one number of B
-abbrev copied : Layout
+abbrev pub copied : Layout
 copied = record {
   machine = record { levels = (2 ∷ 2 ∷ []) ∷ []; memory = None };
   stored = matrix 2 ∷ matrix 2 ∷ [];
@@ -172,7 +172,7 @@ copied_traffic = refl
 -- Cannon's product ------------------------------------------------------------------------------------------------------
 
 -- 3x3 matrices on 3x3 nodes: k is what the step 3 is turned to by the node's coordinates 0 and 1
-abbrev turned : Layout
+abbrev pub turned : Layout
 turned = record {
   machine = record { levels = (3 ∷ 3 ∷ []) ∷ []; memory = None };
   stored = matrix 3 ∷ matrix 3 ∷ matrix 3 ∷ [];

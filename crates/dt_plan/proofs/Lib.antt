@@ -18,3 +18,13 @@ pub mod Keeping
 pub mod BlockSteps
 pub mod PathFacts
 pub mod TrafficFacts
+pub mod Taken
+pub mod PathTests
+pub mod ItemCounts
+pub mod StatementFacts
+pub mod NumberedParts
+pub mod NodeRows
+pub mod OpenedRows
+pub mod SegmentSums
+pub mod SegmentRows
+pub mod OpFacts

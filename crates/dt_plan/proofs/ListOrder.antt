@@ -13,13 +13,13 @@ use Rattle.dt_plan.specs.declared.ops.Op.{Op}
 use Rattle.dt_plan.specs.declared.parts.Part.{Part}
 use Rattle.dt_plan.specs.Listed.{IsIn, Ascends}
 use Rattle.dt_plan.specs.Layouts.{Layout, homes_at}
-use Rattle.dt_plan.specs.Brackets.{Outline, pieces_on, moves_on, busy_nodes, works_of, named_ops, brackets}
+use Rattle.dt_plan.specs.Brackets.{Outline, pieces_on, moves_on, busy_nodes, works_of, named_ops, brackets, paths_from, visited}
 use Rattle.dt_plan.specs.Operations.{zero_on, outline_of, outlines_of, ops_of, key_of, path_end, lengthened, comes_before}
 use Rattle.dt_plan.specs.ListingLaws.{IsLayout, ListIsBrackets, ListHasNamed, ListAscends, IsOrderedBy, ListIsOrdered}
 use Rattle.dt_plan.proofs.Ascending.{all_in, all_from_in, in_flat}
 use Rattle.dt_plan.proofs.Sorting.{listed_ascends}
 use Rattle.dt_plan.proofs.Stretches.{Rises}
-use Rattle.dt_plan.proofs.Outlines.{IsOutline, paths_from, visited, paths_are}
+use Rattle.dt_plan.proofs.Outlines.{IsOutline, paths_are}
 use Rattle.dt_plan.proofs.Listing.{job_ascends, job_in_brackets, job_in_named, job_is_brackets}
 use Rattle.dt_plan.proofs.Meeting.{node_at}
 use Rattle.dt_plan.proofs.OutlineFacts.{are_outlines, outlines_rise}

@@ -19,7 +19,7 @@ use Rattle.dt_plan.specs.ListingLaws.{OpsHaveUnits}
 use Rattle.dt_plan.proofs.Ascending.{all_in, all_from_in}
 use Rattle.dt_plan.proofs.Sorting.{in_listed}
 
-any : {X : Type 0} (xs : List X) → AllByRecursion (λ x. Unit {0}) xs
+pub any : {X : Type 0} (xs : List X) → AllByRecursion (λ x. Unit {0}) xs
 any [] = tt
 any (x ∷ xs) = (tt, any xs)
 
@@ -91,7 +91,7 @@ numbered zs (y ∷ ys) a e = (
 )
 
 module _ (l : Layout) where
-  parts_numbered : AllByRecursion (λ (x : ℕ × Part). slice_get l.parts x.0 ≡ Some x.1) (zip (below (length l.parts)) l.parts)
+  pub parts_numbered : AllByRecursion (λ (x : ℕ × Part). slice_get l.parts x.0 ≡ Some x.1) (zip (below (length l.parts)) l.parts)
   parts_numbered = subst (λ (is : List ℕ). AllByRecursion (λ (x : ℕ × Part). slice_get l.parts x.0 ≡ Some x.1) (zip is l.parts)) (range_with_len-below (length l.parts)) (numbered [] l.parts 0 refl)
 
   all_have : AllByRecursion (HasUnits l) (flat_map named_ops (outlines_of l))

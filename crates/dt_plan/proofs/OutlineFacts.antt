@@ -40,7 +40,7 @@ use Rattle.dt_plan.proofs.Depths.{depth_least, depths_below, deepest_is, inner_l
 -- Nodes -----------------------------------------------------------------------------------------------------------------
 
 module _ (m : MachineView) (h : IsMachine m) (s : Schedule) where
-  path_node_below : (p : List ℕ) → node_of m s p < nodes_of m
+  pub path_node_below : (p : List ℕ) → node_of m s p < nodes_of m
   path_node_below p = go (row_major (dims_of m) (take s.distributed p)) (row_major-below (dims_of m) (take s.distributed p))
     where
       go : (o : Option ℕ) → ((k : ℕ) → o ≡ Some k → k < product (dims_of m)) → unwrap_or o 0 < product (dims_of m)
@@ -55,10 +55,10 @@ module _ (m : MachineView) (h : IsMachine m) (s : Schedule) where
 works_rise : (s : Schedule) → Rises (λ w. w) (works_in s)
 works_rise s = rises_map (λ w. w) (λ w. w) (λ w. length s.tensors + w) (λ x y l. omega (arith, l)) (below (length s.works)) (below_rises (length s.works))
 
-works_after : (s : Schedule) → AllByRecursion (λ w. length s.tensors ≤ w) (works_in s)
+pub works_after : (s : Schedule) → AllByRecursion (λ w. length s.tensors ≤ w) (works_in s)
 works_after s = all_made (λ w. w < length s.works) (λ w. length s.tensors ≤ w) (λ w. length s.tensors + w) (λ w l. omega arith) (below (length s.works)) (below_all (length s.works))
 
-tensors_before : (s : Schedule) → AllByRecursion (λ t. t < length s.tensors) (tensors_in s)
+pub tensors_before : (s : Schedule) → AllByRecursion (λ t. t < length s.tensors) (tensors_in s)
 tensors_before s = all_filter (λ t. t < length s.tensors) (accesses_tensor s.nest) (below (length s.tensors)) (below_all (length s.tensors))
 
 moved_rise : (s : Schedule) → Rises (λ t. t) (tensors_in s ++ root_works s)
@@ -113,7 +113,7 @@ all_deep s lawful =
 -- Values ----------------------------------------------------------------------------------------------------------------
 
 -- each leaf counts
-visits_some : (tree : Tree) → 1 ≤ visits_bound tree
+pub visits_some : (tree : Tree) → 1 ≤ visits_bound tree
 visits_some (Loop v n walk body) = let l = mul-le 1 1 (max 1 n) (visits_bound body) (omega arith) (visits_some body) in omega (arith, l)
 visits_some (Pre work more p q) = let l = visits_some p in omega (arith, l)
 visits_some (Leaf lhs terms guards kernel) = omega arith
@@ -131,7 +131,7 @@ extent_counts (suc k) (Pre work more p q) = omega arith
 extent_counts (suc k) (Leaf lhs terms guards kernel) = omega arith
 
 -- the visits of each part are among those of all
-visits_each : (parts : List Part) → AllByRecursion (λ (p : Part). visits_bound p.sched.nest ≤ visit_count parts) parts
+pub visits_each : (parts : List Part) → AllByRecursion (λ (p : Part). visits_bound p.sched.nest ≤ visit_count parts) parts
 visits_each [] = tt
 visits_each (p ∷ parts) =
     let e = sum_by-cons (λ (q : Part). visits_bound q.sched.nest) p parts in (
@@ -195,7 +195,7 @@ zip_first P [] ys h = tt
 zip_first P (x ∷ xs) [] h = tt
 zip_first P (x ∷ xs) (y ∷ ys) h = (h.0, zip_first P xs ys h.1)
 
-zip_second : {X Y : Type 0} (P : Y → Type 0) (xs : List X) (ys : List Y) → AllByRecursion P ys → AllByRecursion (λ (x : X × Y). P x.1) (zip xs ys)
+pub zip_second : {X Y : Type 0} (P : Y → Type 0) (xs : List X) (ys : List Y) → AllByRecursion P ys → AllByRecursion (λ (x : X × Y). P x.1) (zip xs ys)
 zip_second P [] ys h = tt
 zip_second P (x ∷ xs) [] h = tt
 zip_second P (x ∷ xs) (y ∷ ys) h = (h.0, zip_second P xs ys h.1)

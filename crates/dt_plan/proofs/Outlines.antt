@@ -3,7 +3,7 @@ use Rattle.std.proofs.Common.{◌≡◌, ◌⊎◌, inl, inr, ℕ, zero, suc, �
 use Rattle.std.specs.Prelude.{if◌then◌else◌}
 use Rattle.std.specs.List.{AllByRecursion, flat_map}
 use Rattle.std.proofs.lemmas.List.Concat.{flat_map_single}
-use Rattle.dt_plan.specs.Brackets.{Outline, has_some}
+use Rattle.dt_plan.specs.Brackets.{Outline, has_some, paths_from, visited}
 use Rattle.dt_plan.proofs.Stretches.{Rises, Stretch}
 
 -- the greatest number behind a path
@@ -43,15 +43,6 @@ pub record IsOutline {A I : Type 0} (key : A → List ℕ) (at : I → ℕ) (m :
   pub work_free_key : (n w : ℕ) → key (m.work_free n w) ≡ m.stmt ∷ 1 ∷ n ∷ last_end ∷ 5 ∷ w ∷ n ∷ []
 
 -- Paths -----------------------------------------------------------------------------------------------------------------
-
--- the paths of k more loops below a path
-abbrev pub paths_from : {A I : Type 0} → Outline A I → ℕ → List ℕ → List (List ℕ)
-paths_from m zero p = p ∷ []
-paths_from m (suc k) p = flat_map (λ i. paths_from m k (p ++ (i ∷ []))) (m.values p)
-
--- whether there is a visit
-abbrev pub visited : {A I : Type 0} → Outline A I → Bool
-visited m = has_some (m.paths 0)
 
 -- the paths of the first k loops, from the root down
 abbrev pub root_paths : {A I : Type 0} → Outline A I → ℕ → List (List ℕ)

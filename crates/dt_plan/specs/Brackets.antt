@@ -108,3 +108,12 @@ node_ops m n = map (m.work_alloc n) (works_on m n) ++ (flat_map (block m m.inner
 -- the zeros by node; then, node by node, the blocks of its paths
 abbrev pub brackets : {A I : Type 0} → Outline A I → List A
 brackets m = flat_map m.zeros (below m.nodes) ++ flat_map (node_ops m) (below m.nodes)
+
+-- the paths of k more loops below a path
+abbrev pub paths_from : {A I : Type 0} → Outline A I → ℕ → List ℕ → List (List ℕ)
+paths_from m zero p = p ∷ []
+paths_from m (suc k) p = flat_map (λ i. paths_from m k (p ++ (i ∷ []))) (m.values p)
+
+-- whether there is a visit
+abbrev pub visited : {A I : Type 0} → Outline A I → Bool
+visited m = has_some (m.paths 0)

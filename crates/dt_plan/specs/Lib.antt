@@ -8,4 +8,7 @@ pub mod Bounds
 pub mod Limits
 pub mod PathOps
 pub mod Keeps
+pub mod Statements
 pub mod Plans
+pub mod NodeWords
+pub mod OpsOf

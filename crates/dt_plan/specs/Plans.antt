@@ -1,18 +1,19 @@
 -- What is asked of a plan.
-use Rattle.std.specs.Prelude.{◌≡◌, ℕ, ◌≤◌, List, length, option_map, position, Option, nat_lt, slice_index, sum_by}
-use Rattle.std.specs.List.{AllByRecursion}
+use Rattle.std.specs.Prelude.{◌≡◌, ℕ, ◌<◌, ◌≤◌, List, length, option_map, position, Option, nat_lt, slice_index, sum_by}
+use Rattle.std.specs.List.{All, AllByRecursion}
 use Rattle.dt_plan.specs.declared.ops.Op.{Op}
 use Rattle.dt_plan.specs.Keeps.{op_limit}
 use Rattle.dt_plan.specs.Limits.{PlanView}
 
--- There are at most 64 nodes, and no more operations than the limit. Each operation has what it touches, each node a bound, and
--- each tensor a home on each node.
+-- There are at most 64 nodes, and no more operations than the limit. Each operation has what it touches, its statement a
+-- segment, each node a bound, and each tensor a home on each node.
 pub record IsPlan (p : PlanView) : Type 0 where
   pub nodes : p.nodes ≤ 64
   pub few : length p.ops ≤ op_limit
   pub touches : length p.touches ≡ length p.ops
   pub bounds : length p.bounds ≡ p.nodes
   pub homes : AllByRecursion (λ (homes : List (List ℕ)). length homes ≡ p.nodes) p.homes
+  pub segments : All (λ (o : Op). o.stmt < length p.segments) p.ops
 
 -- all units
 abbrev pub units_in : List Op → ℕ

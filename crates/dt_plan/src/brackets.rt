@@ -1,6 +1,6 @@
 //! The operations of a statement, as brackets along its nest.
 
-ghost use Rattle.std.specs.Prelude.{◌≡◌, ◌+◌, ◌++◌, ◌∷◌, [], true, filter, length, nat_eq, if◌then◌else◌, IfOk, OnOk};
+ghost use Rattle.std.specs.Prelude.{◌≡◌, ◌<◌, ◌+◌, ◌++◌, ◌∷◌, [], true, filter, length, nat_eq, if◌then◌else◌, IfOk, OnOk};
 ghost use Rattle.std.specs.List.{AllByRecursion, flat_map, list_any};
 ghost use Rattle.dt_plan.specs.Brackets.{block, node_ops, brackets};
 ghost use Rattle.dt_plan.specs.Keeps.{Keeps};
@@ -103,6 +103,7 @@ fn push_node<O: Outlined>(
 ) -> Result<(), NoMemory>
     requires paths { paths.now ≡ (O.outline nest.now).paths (O.outline nest.now).distributed }
     requires each { AllByRecursion (λ p. (O.has_path nest.now p ≡ true) × (length p ≡ (O.outline nest.now).distributed)) paths.now }
+    requires node { node < (O.outline nest.now).nodes }
     ensures { OnOk result (Keeps ops.old (node_ops (O.outline nest.now) node) ops.new) }
 {
     if !is_busy(nest, paths, node) {

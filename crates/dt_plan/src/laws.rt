@@ -1,5 +1,6 @@
 //! Laws of the list of operations.
 
+ghost use Rattle.dt_plan.specs.OpsOf.{OpsAreOfLayout};
 ghost use Rattle.dt_plan.specs.ListingLaws.{ListAscends, ListHasNamed, ListIsBrackets, ListIsOrdered, OpsHaveUnits};
 
 /// The operations of a job are brackets along the nests of its statements, one statement after another.
@@ -26,4 +27,9 @@ pub fn list_is_ordered()
 /// Each operation has as many units as its kind, words and visits ask for.
 pub fn operations_have_units()
     ensures { OpsHaveUnits }
+{}
+
+/// Each operation is on nodes of the machine and of one of the statements, and the path of a task is one of its statement's.
+pub fn operations_are_of_layout()
+    ensures { OpsAreOfLayout }
 {}

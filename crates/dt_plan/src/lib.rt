@@ -6,25 +6,38 @@
 //! along the statements' nests, and they ascend by what the keys are made of.
 #![tactic(auto)]
 
+mod bounds;
 mod brackets;
+mod footprints;
+mod job_layout;
+mod job_ops;
 mod kind;
 mod laws;
+mod moved;
 mod needs;
+mod node_words;
+mod opened;
 mod ops;
 mod outlined;
 mod parts;
 mod path_ops;
 mod plan_end;
 mod plans;
+mod statement;
 mod touches;
 mod traffic;
 mod visit_limit;
 mod visited_paths;
 
+pub use bounds::bounds_of;
 pub use brackets::push_brackets;
+pub use footprints::all_footprints;
+pub use job_layout::JobLayout;
+pub use job_ops::{buffers_of, listed};
 pub use kind::Kind;
 pub use laws::{
-    list_ascends, list_has_named, list_is_brackets, list_is_ordered, operations_have_units,
+    list_ascends, list_has_named, list_is_brackets, list_is_ordered, operations_are_of_layout,
+    operations_have_units,
 };
 pub use needs::{Need, Needs};
 pub use ops::{Op, Ops};

@@ -81,6 +81,7 @@ pub trait Outlined {
 
     /// What opens the workspaces of a node, and what closes them.
     fn around_node(&self, alloc: Global, node: u32) -> Result<Around, NoMemory>
+        requires { node < (outline self.now).nodes }
         ensures opened { IfOk result (λ a. a.opened ≡ map ((outline self.now).work_alloc node) (outline self.now).works) }
         ensures closed { IfOk result (λ a. a.closed ≡ map ((outline self.now).work_free node) (outline self.now).works) };
 

@@ -74,7 +74,12 @@ fn piece_op(
     })
 }
 
-fn push_allocs(alloc: Global, on: &OnPath, needs: &[Need], ops: &mut Ops) -> Result<(), NoMemory>
+pub(crate) fn push_allocs(
+    alloc: Global,
+    on: &OnPath,
+    needs: &[Need],
+    ops: &mut Ops,
+) -> Result<(), NoMemory>
     ensures { OnOk result (ops.new ≡ ops.old ++ map (alloc_of on.now) needs.now) }
 {
     for need in needs {
@@ -83,7 +88,12 @@ fn push_allocs(alloc: Global, on: &OnPath, needs: &[Need], ops: &mut Ops) -> Res
     Ok(())
 }
 
-fn push_frees(alloc: Global, on: &OnPath, needs: &[Need], ops: &mut Ops) -> Result<(), NoMemory>
+pub(crate) fn push_frees(
+    alloc: Global,
+    on: &OnPath,
+    needs: &[Need],
+    ops: &mut Ops,
+) -> Result<(), NoMemory>
     ensures { OnOk result (ops.new ≡ ops.old ++ map (free_of on.now) needs.now) }
 {
     for need in needs {

@@ -1,5 +1,10 @@
 //! Why there is no plan.
 
+ghost use Rattle.std.specs.Prelude.{◌≡◌};
+ghost use Rattle.dt_plan.specs.declared.plan_end.PlanEnd.TheVariants as end;
+
+use dt_base::NoMemory;
+
 /// The first number of a job that passes its limit, in this order, or that memory runs out.
 #[derive(Clone, Copy, Debug, PartialEq, Eq)]
 pub enum PlanEnd {
@@ -12,4 +17,12 @@ pub enum PlanEnd {
     /// Units of all operations: above 33,554,432.
     TooManyUnits,
     NoMemory,
+}
+
+impl From<NoMemory> for PlanEnd {
+    ghost from_gives = { λ _ stop. stop ≡ end.NoMemory };
+
+    fn from(_error: NoMemory) -> PlanEnd {
+        PlanEnd::NoMemory
+    }
 }

@@ -2,7 +2,7 @@
 
 ghost use Rattle.std.specs.Prelude.{◌≡◌, ◌<◌, [], length, nat_lt, position, IfSome, slice_index, slice_index_or};
 ghost use Rattle.dt_copy.specs.Sources.{home_at};
-ghost use Rattle.dt_plan.specs.Plans.{units_in, over_of};
+ghost use Rattle.dt_plan.specs.Plans.{IsPlan, units_in, over_of};
 
 use crate::ops::{Op, Ops};
 use crate::touches::{Buffer, Touch, Touches};
@@ -66,7 +66,8 @@ fn first_over(bounds: &[u64], capacity: u64) -> Option<usize>
 impl Plan {
     /// The operations, in the order of the listing.
     pub fn ops(&self) -> &[Op]
-        ensures { result.now ≡ self.now.ops }
+        ensures ops { result.now ≡ self.now.ops }
+        ensures plan { IsPlan self.now }
     {
         self.ops.as_slice()
     }

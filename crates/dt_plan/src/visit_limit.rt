@@ -1,7 +1,10 @@
 //! The visits that parts may have, against their limit.
 
 ghost use Rattle.std.specs.Prelude.{◌≡◌, ◌+◌, min};
+ghost use Rattle.std.specs.List.{AllByRecursion};
+ghost use Rattle.dt_nest.specs.Lawful.{IsLawful};
 ghost use Rattle.dt_nest.specs.Tree.{tree_of};
+ghost use Rattle.dt_plan.specs.declared.parts.Part.{Part};
 ghost use Rattle.dt_plan.specs.Limits.{has_too_many_visits, visit_limit, visits_bound};
 
 use crate::parts::Part;
@@ -10,9 +13,10 @@ use dt_nest::Nest;
 /// The most visits of a plan.
 const VISIT_LIMIT: u64 = 4_194_304;
 
-/// Whether the parts may have more than 4,194,304 visits in all. An extent of 0 counts as 1.
+/// Whether the parts may have more than 4,194,304 visits in all. An extent of 0 counts as 1. Each schedule is lawful.
 pub fn has_too_many_visits(parts: &[Part]) -> bool
-    ensures { result ≡ has_too_many_visits parts.now }
+    ensures count { result ≡ has_too_many_visits parts.now }
+    ensures lawful { AllByRecursion (λ (p : Part). IsLawful p.sched) parts.now }
 {
     let mut count = 0u64;
     for part in parts {

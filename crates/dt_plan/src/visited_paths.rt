@@ -96,7 +96,8 @@ pub fn is_visited<L: Locator>(
     Ok(first.is_some())
 }
 
-fn push_if(values: &mut Vec<u32>, value: u32, passes: bool) -> Result<(), NoMemory>
+/// Puts a value at the end where it passes.
+pub(crate) fn push_if(values: &mut Vec<u32>, value: u32, passes: bool) -> Result<(), NoMemory>
     ensures { OnOk result (values.new.items ≡ values.old.items ++ (if passes then value ∷ [] else [])) }
 {
     if passes {

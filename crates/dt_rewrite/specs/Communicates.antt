@@ -1,5 +1,5 @@
 -- Tensors that are moved once for each iteration of a loop: when it is lawful, and what it makes of a schedule.
-use Rattle.std.specs.Prelude.{ℕ, zero, suc, ◌+◌, ◌-◌, ◌&&◌, ◌||◌, Bool, not, List, [], ◌∷◌, ◌++◌, length, map, Option, Some, None, option_map, find, if◌then◌else◌, nat_eq, nat_lt, slice_index_or, ◌<◌}
+use Rattle.std.specs.Prelude.{ℕ, zero, suc, ◌+◌, ◌-◌, ◌&&◌, ◌||◌, Bool, not, List, [], ◌∷◌, ◌++◌, length, map, Option, Some, None, option_map, find, if◌then◌else◌, nat_eq, nat_lt, ◌<◌}
 use Rattle.std.specs.List.{AllByRecursion, last_or, list_any}
 use Rattle.std.specs.Option.{option_or}
 use Rattle.dt_model.specs.declared.cause.Cause.{Cause}
@@ -10,11 +10,8 @@ use Rattle.dt_nest.specs.Questions.{is_among, is_in, accesses_tensor}
 use Rattle.dt_nest.specs.Commands.{Rule}
 use Rattle.dt_nest.specs.Schedule.{Schedule}
 use Rattle.dt_rewrite.specs.declared.communicates.Communicate.{Communicate}
-use Rattle.dt_cuts.specs.Causes.{first_cause, first_with, unless, name_of, unknown_loop, fixed_loop}
-
--- the name of a tensor or workspace
-abbrev pub tensor_name : Schedule → ℕ → List ℕ
-tensor_name s t = slice_index_or (s.tensors ++ map (λ w. w.name) s.works) t []
+use Rattle.dt_nest.specs.PartNames.{name_of, tensor_name}
+use Rattle.dt_cuts.specs.Causes.{first_cause, first_with, unless, unknown_loop, fixed_loop}
 
 -- UnknownTensor with the first that is a workspace, or that the statement doesn't access
 abbrev pub unknown_tensor : Schedule → List ℕ → Option Cause

@@ -6,7 +6,8 @@ use Rattle.dt_model.specs.declared.cause.Cause.TheVariants as cause
 use Rattle.dt_nest.specs.Commands.{Rule}
 use Rattle.dt_nest.specs.Schedule.{Schedule}
 use Rattle.dt_rewrite.specs.declared.distributes.Distribute.{Distribute}
-use Rattle.dt_cuts.specs.Causes.{first_cause, unless, name_of, unknown_loop, communicated_loop, fixed_loop}
+use Rattle.dt_nest.specs.PartNames.{name_of}
+use Rattle.dt_cuts.specs.Causes.{first_cause, unless, unknown_loop, communicated_loop, fixed_loop}
 use Rattle.dt_nest.specs.Questions.{misplaced}
 
 -- Distributed with the first of these loops, where the statement is distributed

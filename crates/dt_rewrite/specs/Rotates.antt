@@ -10,7 +10,8 @@ use Rattle.dt_nest.specs.Schedule.{Schedule}
 use Rattle.dt_nest.specs.Commands.{Rule}
 use Rattle.dt_cuts.specs.Cutting.{cut_by, cut_rule}
 use Rattle.dt_rewrite.specs.declared.rotates.Rotate.{Rotate}
-use Rattle.dt_cuts.specs.Causes.{first_cause, first_with, name_of, unknown_loop, taken_name, not_free}
+use Rattle.dt_nest.specs.PartNames.{name_of}
+use Rattle.dt_cuts.specs.Causes.{first_cause, first_with, unknown_loop, taken_name, not_free}
 
 -- NotOuter with the first that is no loop around t
 abbrev pub not_outer : Schedule → ℕ → List ℕ → Option Cause

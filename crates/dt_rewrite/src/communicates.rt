@@ -5,13 +5,14 @@ ghost use Rattle.std.specs.List.{list_any};
 ghost use Rattle.dt_nest.specs.Tree.{loop_count, tree_of};
 ghost use Rattle.dt_nest.specs.Schedule.{seen};
 ghost use Rattle.dt_nest.specs.Questions.{accesses_tensor};
-ghost use Rattle.dt_rewrite.specs.Communicates.{below_pre, communicate_cause, communicated_tensor, is_moved, moves_at, not_below_task, tensor_name, unknown_tensor};
+ghost use Rattle.dt_rewrite.specs.Communicates.{below_pre, communicate_cause, communicated_tensor, is_moved, moves_at, not_below_task, unknown_tensor};
 
-use dt_base::{Name, NoMemory, Vars};
-use dt_cuts::{fixed_loop, name_of, unknown_loop};
+use dt_base::{NoMemory, Vars};
+use dt_cuts::{fixed_loop, unknown_loop};
 use dt_model::Cause;
 use dt_nest::{
-    Moved, MovedList, Rewrite, SchedParts, accesses_tensor, is_among, is_in, loop_count,
+    Moved, MovedList, Rewrite, SchedParts, accesses_tensor, is_among, is_in, loop_count, name_of,
+    tensor_name,
 };
 use std::alloc::Global;
 
@@ -35,21 +36,6 @@ impl Communicate {
             })?;
         }
         Ok(moves)
-    }
-}
-
-/// The name of a tensor or workspace, empty where there is none.
-fn tensor_name(parts: &SchedParts, t: u32) -> Name
-    ensures { result ≡ tensor_name (seen parts.now) t }
-{
-    let tensors = parts.tensors.as_slice();
-    let t = t as usize;
-    if t < tensors.len() {
-        return tensors[t].copied();
-    }
-    match parts.works.as_slice().get(t - tensors.len()) {
-        Some(work) => work.name.copied(),
-        None => Name::from_slice(&[]),
     }
 }
 

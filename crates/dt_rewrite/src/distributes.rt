@@ -5,9 +5,9 @@ ghost use Rattle.dt_nest.specs.Schedule.{seen};
 ghost use Rattle.dt_rewrite.specs.Distributes.{distribute_cause, distributed_before, front_of, not_outermost, wrong_extent};
 
 use dt_base::{Extents, Vars};
-use dt_cuts::{communicated_loop, extent_of, fixed_loop, name_of, unknown_loop, unless};
+use dt_cuts::{communicated_loop, extent_of, fixed_loop, unknown_loop, unless};
 use dt_model::Cause;
-use dt_nest::{Rewrite, SchedParts, misplaced};
+use dt_nest::{Rewrite, SchedParts, misplaced, name_of};
 use std::alloc::Global;
 
 /// The outermost loops become the dimensions of the machine, one loop each, in order. `grid` has the extent of each

@@ -1,21 +1,14 @@
-//! The commands that cut a loop nest or lay it out on the machine: when each is lawful, and what it makes of a schedule.
+//! In: a command with its numbers, and a schedule. Out: the schedule after it, or the first cause and the schedule as it
+//! was, by `apply`. The law of each command (`specs/Laws/`): the sum is the same at every index.
 #![tactic(auto)]
 
 mod collapses;
-#[cfg(test)]
-mod communicate_tests;
 mod communicates;
 mod distributes;
 mod divides;
-#[cfg(test)]
-mod effect_tests;
-#[cfg(test)]
-mod fixtures;
 mod reorders;
 mod rotates;
 mod splits;
-#[cfg(test)]
-mod tests;
 mod two_loops;
 
 pub use collapses::Collapse;

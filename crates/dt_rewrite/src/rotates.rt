@@ -6,9 +6,9 @@ ghost use Rattle.dt_rewrite.specs.Rotates.{not_outer, rotate_cause, rotate_cut};
 
 use crate::two_loops::head;
 use dt_base::{Extents, Name, Names, NoMemory, Vars};
-use dt_cuts::{Cut, Heads, extent_of, first_new_loop, name_of, not_free, taken_name, unknown_loop};
+use dt_cuts::{Cut, Heads, extent_of, first_new_loop, not_free, taken_name, unknown_loop};
 use dt_model::Cause;
-use dt_nest::{Derivations, Derive, Derived, Rewrite, SchedParts, is_around};
+use dt_nest::{Derivations, Derive, Derived, Rewrite, SchedParts, is_around, name_of};
 use std::alloc::Global;
 
 /// Loop `var` becomes `fresh`: its value is `fresh` and the values of the loops `by`, added, modulo its extent.

@@ -5,7 +5,7 @@ ghost use Rattle.dt_nest.specs.Tree.{loop_count};
 ghost use Rattle.dt_nest.specs.Schedule.{seen};
 ghost use Rattle.dt_rewrite.specs.Splits.{split_cause, split_cut};
 
-use crate::two_loops::{two_loops_cause, two_loops_cut};
+use crate::two_loops::{TwoLoops, two_loops_cause};
 use dt_base::{Name, NoMemory};
 use dt_cuts::{Cut, extent_of};
 use dt_model::Cause;
@@ -29,15 +29,14 @@ impl Split {
         ensures few { IfOk result (λ c. length (seen parts.now).names + length c.names < 2 ^ 32) }
     {
         let pieces = extent_of(parts, self.var).div_ceil(self.factor);
-        two_loops_cut(
-            alloc,
-            parts,
-            self.var,
+        let loops = TwoLoops {
+            var: self.var,
             pieces,
-            self.factor,
-            &self.outer,
-            &self.inner,
-        )
+            size: self.factor,
+            outer: &self.outer,
+            inner: &self.inner,
+        };
+        loops.cut(alloc, parts)
     }
 }
 

@@ -34,39 +34,45 @@ pub fn two_loops_cause(
         .or_else(|| not_free(parts, &[v]))
 }
 
-/// The cut of loop `v` in two loops with these extents.
-pub fn two_loops_cut(
-    alloc: Global,
-    parts: &SchedParts,
-    v: u32,
-    pieces: u32,
-    size: u32,
-    outer: &Name,
-    inner: &Name,
-) -> Result<Cut, NoMemory>
-    ensures cut { IfOk result (λ c. c ≡ two_loops v (slice_index (seen parts.now).extents v) pieces size (outer.now ∷ inner.now ∷ []) (seen parts.now)) }
-    ensures few { IfOk result (λ c. length (seen parts.now).names + length c.names < 2 ^ 32) }
-{
-    let first = first_new_loop(parts, 2)?;
-    let second = first + 1;
-    let how = Derive::Split {
-        outer: first,
-        inner: second,
-        factor: size,
-    };
-    let mut derived = Derivations::new(alloc);
-    derived.push(Derived { var: v, how })?;
-    let mut names = Names::new(alloc);
-    names.push(outer.copied())?;
-    names.push(inner.copied())?;
-    Ok(Cut {
-        old: Heads::from_slice(alloc, &[head(v, extent_of(parts, v))])?,
-        heads: Heads::from_slice(alloc, &[head(first, pieces), head(second, size)])?,
-        guards: Vars::from_slice(alloc, &[v])?,
-        derived,
-        names,
-        extents: Extents::from_slice(alloc, &[pieces, size])?,
-    })
+/// A loop as two: the extents of the outer and of the inner one, and their names.
+#[derive(Drop)]
+pub struct TwoLoops<'a> {
+    pub var: u32,
+    pub pieces: u32,
+    pub size: u32,
+    pub outer: &'a Name,
+    pub inner: &'a Name,
+}
+
+impl TwoLoops<'_> {
+    /// The cut of the loop in the two.
+    pub fn cut(&self, alloc: Global, parts: &SchedParts) -> Result<Cut, NoMemory>
+        ensures cut { IfOk result (λ c. c ≡ two_loops self.now.var (slice_index (seen parts.now).extents self.now.var) self.now.pieces self.now.size (self.now.outer.now ∷ self.now.inner.now ∷ []) (seen parts.now)) }
+        ensures few { IfOk result (λ c. length (seen parts.now).names + length c.names < 2 ^ 32) }
+    {
+        let v = self.var;
+        let first = first_new_loop(parts, 2)?;
+        let second = first + 1;
+        let how = Derive::Split {
+            outer: first,
+            inner: second,
+            factor: self.size,
+        };
+        let mut derived = Derivations::new(alloc);
+        derived.push(Derived { var: v, how })?;
+        let mut names = Names::new(alloc);
+        names.push(self.outer.copied())?;
+        names.push(self.inner.copied())?;
+        let heads = [head(first, self.pieces), head(second, self.size)];
+        Ok(Cut {
+            old: Heads::from_slice(alloc, &[head(v, extent_of(parts, v))])?,
+            heads: Heads::from_slice(alloc, &heads)?,
+            guards: Vars::from_slice(alloc, &[v])?,
+            derived,
+            names,
+            extents: Extents::from_slice(alloc, &[self.pieces, self.size])?,
+        })
+    }
 }
 
 /// A loop, by its number and its extent.

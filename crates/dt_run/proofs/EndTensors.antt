@@ -11,7 +11,7 @@ use Rattle.dt_model.specs.Positions.{StoredTensor}
 use Rattle.dt_model.specs.Stmts.{shapes_of}
 use Rattle.dt_model.specs.WholeTensor.{WholeTensor, IsWhole, number_at}
 use Rattle.dt_tensor.specs.Packed.{Packed, dense_levels, dense_tensor, stored_of}
-use Rattle.dt_job.specs.Jobs.{IsJobTensor}
+use Rattle.dt_job.specs.JobTensors.{IsJobTensor}
 use Rattle.dt_run.specs.Outcome.{packed_with}
 use Rattle.dt_run.specs.TensorText.{dense_of}
 

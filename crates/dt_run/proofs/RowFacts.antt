@@ -1,13 +1,14 @@
 -- Rows of a tensor's numbers, put together.
-use Rattle.std.proofs.Common.{◌≡◌, ℕ, zero, suc, ◌+◌, ◌*◌, ◌/◌, ◌<◌, ◌≤◌, List, ◌++◌, codes, length, ap, ◌∙◌, sym, arith, append_assoc}
+use Rattle.std.proofs.Common.{◌≡◌, ℕ, zero, suc, ◌+◌, ◌*◌, ◌/◌, ◌<◌, ◌≤◌, List, ◌++◌, codes, length, ap, ◌∙◌, sym, arith, append_assoc, Bool, if◌then◌else◌}
 use Rattle.std.specs.List.{AllByRecursion}
 use Rattle.std.proofs.lemmas.Nat.{row_fits}
 use Rattle.std.proofs.Math.Nat.{div-eq_of_eq-mul_left, div-mul-le_self}
 use Rattle.dt_base.specs.Rows.{product}
 use Rattle.dt_base.proofs.Rows.{product-positive}
 use Rattle.dt_tensor.specs.Packed.{dense_tensor}
-use Rattle.dt_run.specs.Refusals.{line_end}
-use Rattle.dt_run.specs.TensorText.{cut_text, front_extents, row_length, shape_text, tensor_text}
+use Rattle.dt_refusal.specs.Refusals.{line_end}
+use Rattle.dt_run.specs.TensorText.{cut_text, front_extents, positions_text, row_length, rows_text, shape_text, tensor_text}
+use Rattle.dt_job.proofs.JobTensorFacts.{dense_levels_are}
 use Rattle.dt_run.proofs.CutRows.{cut_rows, last_is, rows_whole}
 
 -- the rows have all numbers
@@ -38,5 +39,6 @@ tensor_whole name ns values old mid new h whole e q =
     let rows : cut_text (length values / row_length ns) (row_length ns) values ≡ cut_text (product (front_extents ns)) (row_length ns) values =
     ap (λ (k : ℕ). cut_text k (row_length ns) values) (rows_are ns values h whole) in
     q ∙ ap (λ (l : List ℕ). l ++ cut_text (length values / row_length ns) (row_length ns) values) e
-    ∙ ap (λ (l : List ℕ). (old ++ (codes "tensor " ++ name ++ codes " " ++ shape_text ns ++ line_end)) ++ l) (rows ∙ sym (cut_rows ns values whole))
+    ∙ ap (λ (l : List ℕ). (old ++ (codes "tensor " ++ name ++ codes " " ++ shape_text ns ++ line_end)) ++ l)
+    (rows ∙ sym (cut_rows ns values whole) ∙ ap (λ (b : Bool). if b then rows_text (dense_tensor ns values) else positions_text (dense_tensor ns values)) (sym (dense_levels_are (length ns))))
     ∙ append_assoc old (codes "tensor " ++ name ++ codes " " ++ shape_text ns ++ line_end) _

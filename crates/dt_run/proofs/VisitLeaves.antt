@@ -23,7 +23,7 @@ use Rattle.dt_nest.proofs.Agree.{all_parts}
 use Rattle.dt_nest.proofs.NamedAccesses.{named_accesses}
 use Rattle.dt_nest.specs.FitsStored.{FitsStored}
 use Rattle.dt_nest.proofs.Inside.{fits_stored}
-use Rattle.dt_nest.specs.Visits.{Scope, at_root, entered, in_producer, LeafNode, Item, IsVisit, Tests, no_slots, tests_of, with_reset, values_on, lane_visit, valid_values, substituted_visits, tree_visits, visits_of}
+use Rattle.dt_nest.specs.Visits.{Scope, at_root, entered, in_producer, LeafNode, Item, IsVisit, Tests, no_slots, tests_of, with_reset, values_on, lane_visit, valid_values, substituted_visits, tree_visits, visits_of, leaf_node}
 use Rattle.dt_nest.proofs.Pruned.{stored_each}
 use Rattle.dt_run.specs.AtVisit.{IsAccessOver}
 use Rattle.dt_run.specs.Visiting.{IsRunnable, IsLeafOver, IsItemOver}
@@ -43,7 +43,7 @@ module _ (t : Tests) (shapes : List (List ℕ)) (s : Schedule) where
   lanes_over walk v n (Loop u m more inner) scope slots h = tt
   lanes_over walk v n (Pre work more p q) scope slots h = tt
   lanes_over walk v n (Leaf lhs terms guards kernel) scope slots h =
-      lane_over (record { lhs = lhs; terms = terms; guards = guards; kernel = kernel }) scope slots v n (valid_values t walk v n guards scope.pairs slots) h
+      lane_over (record { lhs = lhs; terms = terms; guards = guards; kernel = kernel }) scope slots v n (valid_values t walk v n (leaf_node lhs terms guards kernel) scope.pairs slots) h
 
   reset_over : (work : ℕ) (items : List Item) → AllByRecursion (IsItemOver shapes s) items → AllByRecursion (IsItemOver shapes s) (with_reset work items)
   reset_over work [] h = tt
@@ -69,7 +69,7 @@ module _ (t : Tests) (shapes : List (List ℕ)) (s : Schedule) where
   tree_over (Pre work more p q) scope slots path h =
       reset_over work (tree_visits t p (in_producer scope more) slots [] ++ tree_visits t q scope slots [])
       (all_append (IsItemOver shapes s) (tree_visits t p (in_producer scope more) slots []) (tree_visits t q scope slots []) (tree_over p (in_producer scope more) slots [] h.0) (tree_over q scope slots [] h.1))
-  tree_over (Leaf lhs terms guards kernel) scope slots path h = go (t.holds guards scope.pairs slots)
+  tree_over (Leaf lhs terms guards kernel) scope slots path h = go (t.holds (leaf_node lhs terms guards kernel) scope.pairs slots)
     where
       go : (b : Bool) → AllByRecursion (IsItemOver shapes s) (if b then IsVisit (record { leaf = record { lhs = lhs; terms = terms; guards = guards; kernel = kernel }; around = scope.around; pairs = scope.pairs; slots = slots; lanes = None }) ∷ [] else [])
       go true = (h, tt)

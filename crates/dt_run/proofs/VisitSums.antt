@@ -21,7 +21,7 @@ use Rattle.dt_nest.specs.Visits.{Lanes, LeafVisit, Item, IsReset, IsVisit, value
 use Rattle.dt_nest.specs.Effects.{visit_sum}
 use Rattle.dt_nest.specs.Run.{Run, OnVisit, OnLanes, HasValue, HasLaneValue, AreAscending, among, with_lane, is_among}
 use Rattle.dt_nest.proofs.Moves.{range-add}
-use Rattle.dt_nest.specs.Point.{visit_in, visit_of, env_at, valid_in, valid_of, slots_with, IsPoint, HasValueAt}
+use Rattle.dt_nest.specs.Point.{visit_in, visit_of, env_at, valid_in, valid_of, slots_with, HasValueAt}
 use Rattle.dt_run.specs.AtVisit.{AreCoordinates, IsFactorAt, IsTermAt, IsAccessOver}
 
 -- facts on a visit, and on its substituted loop
@@ -47,16 +47,16 @@ lane_free r e u h =
 -- Terms ---------------------------------------------------------------------------------------------------------------
 
 -- the variables of an access over the tensors give coordinates
-pub are_coordinates : (r : Run) (lane : Option ℕ) (shapes : List (List ℕ)) (a : Access) → IsPoint r lane → IsAccessOver shapes r.sched.extents a → AllByRecursion (HasValueAt r lane) a.vars → AreCoordinates r lane a.vars
-are_coordinates r lane shapes a p o h = record { few = o.few; point = p; valued = λ k d l. all_get (HasValueAt r lane) a.vars k d h l; small = o.small }
+pub are_coordinates : (r : Run) (lane : Option ℕ) (shapes : List (List ℕ)) (a : Access) → IsAccessOver shapes r.sched.extents a → AllByRecursion (HasValueAt r lane) a.vars → AreCoordinates r lane a.vars
+are_coordinates r lane shapes a o h = record { few = o.few; valued = λ k d l. all_get (HasValueAt r lane) a.vars k d h l; small = o.small }
 
-module _ (r : Run) (lane : Option ℕ) (shapes : List (List ℕ)) (point : IsPoint r lane) (may : (u : ℕ) → HasLaneValue r u → HasValueAt r lane u) where
+module _ (r : Run) (lane : Option ℕ) (shapes : List (List ℕ)) (may : (u : ℕ) → HasLaneValue r u → HasValueAt r lane u) where
   -- an access over the tensors, whose variables have values
   abbrev IsRead : Access → Type 0
   IsRead a = IsAccessOver shapes r.sched.extents a × AllByRecursion (HasLaneValue r) a.vars
 
   factor_at : (f : Factor) → AllByRecursion IsRead (factor_accesses f) → IsFactorAt r lane f
-  factor_at (Read a) h = are_coordinates r lane shapes a point h.0.0 (all_map (HasLaneValue r) (HasValueAt r lane) may a.vars h.0.1)
+  factor_at (Read a) h = are_coordinates r lane shapes a h.0.0 (all_map (HasLaneValue r) (HasValueAt r lane) may a.vars h.0.1)
   factor_at (Literal n) h = tt
 
   factors_at : (fs : List Factor) → AllByRecursion IsRead (flat_map factor_accesses fs) → AllByRecursion (IsFactorAt r lane) fs

@@ -1,8 +1,7 @@
 -- The parts of a job have no workspaces: no line of a text makes any.
-use Rattle.std.proofs.Common.{◌≡◌, ℕ, zero, suc, ◌+◌, Bool, true, false, List, [], ◌∷◌, ◌++◌, map, Option, Some, None, IfSome, is_some, option_map, not, ◌&&◌, ◌==◌, length, nat_le, nat_lt, Result, Ok, Err, IfOk, refl, sym, ap, ◌∙◌, subst, if◌then◌else◌, codes}
+use Rattle.std.proofs.Common.{◌≡◌, ℕ, zero, suc, ◌+◌, Bool, true, false, List, [], ◌∷◌, ◌++◌, map, Option, Some, None, IfSome, is_some, option_map, not, ◌&&◌, ◌==◌, length, nat_lt, replicate, Result, Ok, Err, IfOk, refl, sym, ap, ◌∙◌, subst, if◌then◌else◌, codes}
 use Rattle.std.specs.List.{AllByRecursion, list_all}
 use Rattle.std.specs.Str.{bytes_eq}
-use Rattle.dt_base.specs.Rows.{product}
 use Rattle.dt_text.specs.Lines.{lines_of, plain_line}
 use Rattle.dt_text.specs.Names.{is_name}
 use Rattle.dt_text.specs.Numbers.{all_numbers_of, is_numeral}
@@ -10,7 +9,7 @@ use Rattle.dt_text.specs.Tokens.{after_word, tokens_of}
 use Rattle.dt_text.specs.Words.{line_words}
 use Rattle.dt_model.specs.declared.cause.Cause.{Cause}
 use Rattle.dt_model.specs.declared.cause.Cause.TheVariants as cause
-use Rattle.dt_model.specs.Shape.{shape_of_extents}
+use Rattle.dt_model.specs.Shape.{dims, shape_of_extents}
 use Rattle.dt_model.specs.Steps.{◌>>=◌, found, need}
 use Rattle.dt_index.specs.Known.{place_of}
 use Rattle.dt_index.specs.Resolve.{Resolved, parsed_of}
@@ -22,11 +21,12 @@ use Rattle.dt_place.specs.PlaceLine.{form_of, placed_of}
 use Rattle.dt_plan.specs.declared.parts.Part.{Part}
 use Rattle.dt_schedule.specs.Commands.{command_line}
 use Rattle.dt_schedule.proofs.LineFacts.{line_works}
-use Rattle.dt_job.specs.Contents.{known_of, names_of, order_of, position_count_of}
+use Rattle.dt_job.specs.Contents.{known_of, names_of, order_of, position_count_of, stored_of_all}
 use Rattle.dt_job.specs.Drafts.{DraftView, empty_draft, part_of}
 use Rattle.dt_job.specs.DataLine.{data_line, numbers_line, ungiven_number}
 use Rattle.dt_job.specs.DistalLine.{distal_line}
 use Rattle.dt_job.specs.EndLine.{end_line}
+use Rattle.dt_job.specs.GivenWords.{given_words}
 use Rattle.dt_job.specs.FillLine.{fill_line, fill_of, filled_in}
 use Rattle.dt_job.specs.Lines.{bytes_line, words_line, words_of}
 use Rattle.dt_job.specs.MachineLine.{machine_line}
@@ -36,7 +36,7 @@ use Rattle.dt_schedule.specs.CommandWords.{is_command}
 use Rattle.dt_job.specs.ScheduleLine.{schedule_line}
 use Rattle.dt_job.specs.Scheduled.{ScheduledView}
 use Rattle.dt_job.specs.StmtLine.{scheduled_of, stmt_line}
-use Rattle.dt_job.specs.TensorLine.{declared_in, tensor_line}
+use Rattle.dt_job.specs.TensorLine.{declared_in, tensor_line, zeros_of}
 use Rattle.dt_job.specs.Phases.{is_whole, open_stmt, takes_declaration, takes_distal, takes_machine, takes_output, takes_stmt}
 use Rattle.dt_job.specs.Shapes.{are_numerals, extent_words, is_dense_letter, level_words, numeral_of}
 use Rattle.dt_job.specs.Read.{StatedJob, job_of, job_on, lines_from, numbered, stmts_of, then_lines, whole_job}
@@ -86,8 +86,8 @@ module _ (d : DraftView) (w : Workless d) where
   open_none s e = found_has HasNone (open_stmt d.phase) cause.OutOfPlace s w.1 e
 
   -- nor does a command give it one
-  commanded : (s : ScheduledView) (grid : List ℕ) (text : List ℕ) (sched : Schedule) → found (open_stmt d.phase) cause.OutOfPlace ≡ Ok s → command_line s.sched grid (tokens_of text) ≡ Ok sched → AllByRecursion HasNone d.closed × HasNone (record s { sched = sched })
-  commanded s grid text sched e g = (w.0, line_works s.sched grid (tokens_of text) sched g ∙ open_none s e)
+  commanded : (s : ScheduledView) (grid : List ℕ) (text : List ℕ) (sched : Schedule) → found (open_stmt d.phase) cause.OutOfPlace ≡ Ok s → command_line s.sched grid (stored_of_all d.tensors) (tokens_of text) ≡ Ok sched → AllByRecursion HasNone d.closed × HasNone (record s { sched = sched })
+  commanded s grid text sched e g = (w.0, line_works s.sched grid (stored_of_all d.tensors) (tokens_of text) sched g ∙ open_none s e)
 
   -- nor does the last closed one have any
   ended : (s : ScheduledView) → found (open_stmt d.phase) cause.OutOfPlace ≡ Ok s → AllByRecursion HasNone (d.closed ++ s ∷ []) × Unit {0}
@@ -108,7 +108,7 @@ module _ (d : DraftView) (w : Workless d) where
   unfolding declared_in
   declared_workless name extents letters =
       after Workless (need (not (is_some (place_of name (known_of d.tensors)))) (cause.NameTaken name)) _ (λ a e. after Workless (need (nat_lt (length d.tensors) 32) cause.TooManyTensors) _
-      (λ b f. after Workless (found (shape_of_extents extents) cause.BadShape) _ (λ s g. after Workless (need (letters == length extents) cause.BadFormat) _ (λ c h. after Workless (need (nat_le (product extents) 1048576) cause.TooManyStored) _ (λ u i. w)))))
+      (λ b f. after Workless (found (shape_of_extents extents) cause.BadShape) _ (λ s g. after Workless (need (letters == length extents) cause.BadFormat) _ (λ c h. after Workless (zeros_of (dims s) (replicate (length (dims s)) false)) _ (λ u i. w)))))
 
   tensor_workless : (words : List (List ℕ)) → IfOk (tensor_line d words) Workless
   unfolding tensor_line
@@ -134,10 +134,9 @@ module _ (d : DraftView) (w : Workless d) where
 
   data_workless : (words : List (List ℕ)) → IfOk (data_line d words) Workless
   unfolding data_line
-  data_workless [] = after Workless (need (takes_declaration d.phase) cause.OutOfPlace) (λ u. Err cause.Syntax) (λ u e. tt)
-  data_workless (name ∷ values) =
-      after Workless (need (takes_declaration d.phase) cause.OutOfPlace) _ (λ u e. after Workless (need (is_name name && are_numerals values) cause.Syntax) _
-      (λ v f. after Workless (found (all_numbers_of values) cause.BadNumber) (λ ns. numbers_line d name ns) (λ ns g. numbers_workless name ns)))
+  data_workless words =
+      after Workless (given_words d.phase words) _ (λ g e. after Workless (need (are_numerals g.1) cause.Syntax) _
+      (λ v f. after Workless (found (all_numbers_of g.1) cause.BadNumber) (λ ns. numbers_line d g.0 ns) (λ ns h. numbers_workless g.0 ns)))
 
   filled_workless : (name : List ℕ) (fill : Fill) → IfOk (filled_in d name fill) Workless
   unfolding filled_in
@@ -145,9 +144,7 @@ module _ (d : DraftView) (w : Workless d) where
 
   fill_workless : (words : List (List ℕ)) → IfOk (fill_line d words) Workless
   unfolding fill_line
-  fill_workless [] = after Workless (need (takes_declaration d.phase) cause.OutOfPlace) (λ u. Err cause.Syntax) (λ u e. tt)
-  fill_workless (name ∷ kind) =
-      after Workless (need (takes_declaration d.phase) cause.OutOfPlace) _ (λ u e. after Workless (need (is_name name) cause.Syntax) _ (λ v f. after Workless (fill_of kind) (λ fill. filled_in d name fill) (λ fill g. filled_workless name fill)))
+  fill_workless words = after Workless (given_words d.phase words) _ (λ g e. after Workless (fill_of g.1) (λ fill. filled_in d g.0 fill) (λ fill h. filled_workless g.0 fill))
 
   stmt_workless : (text : List ℕ) → IfOk (stmt_line d text) Workless
   unfolding stmt_line
@@ -157,7 +154,7 @@ module _ (d : DraftView) (w : Workless d) where
   schedule_workless : (text : List ℕ) → IfOk (schedule_line d text) Workless
   unfolding schedule_line
   schedule_workless text =
-      after Workless (found (open_stmt d.phase) cause.OutOfPlace) _ (λ s e. after Workless (found (option_map dims_of d.machine) cause.OutOfPlace) _ (λ grid f. after Workless (command_line s.sched grid (tokens_of text)) _ (λ sched g. commanded s grid text sched e g)))
+      after Workless (found (open_stmt d.phase) cause.OutOfPlace) _ (λ s e. after Workless (found (option_map dims_of d.machine) cause.OutOfPlace) _ (λ grid f. after Workless (command_line s.sched grid (stored_of_all d.tensors) (tokens_of text)) _ (λ sched g. commanded s grid text sched e g)))
 
   end_workless : (words : List (List ℕ)) → IfOk (end_line d words) Workless
   unfolding end_line

@@ -4,14 +4,12 @@ use Rattle.dt_model.specs.declared.stmt.Access.{Access}
 use Rattle.dt_model.specs.declared.stmt.Factor.{Factor}
 use Rattle.dt_model.specs.declared.stmt.Factor.TheVariants.{Read, Literal}
 use Rattle.dt_model.specs.declared.stmt.Term.{Term}
-use Rattle.dt_nest.specs.Point.{IsPoint, HasValueAt}
+use Rattle.dt_nest.specs.Point.{HasValueAt}
 use Rattle.dt_nest.specs.Run.{Run}
 
--- Variables that give coordinates at a point of the visit where a run stands: at most four, each with a value and of a
--- small extent.
+-- Variables that give coordinates at a point of a visit: at most four, each with a value and of a small extent.
 pub record AreCoordinates (r : Run) (lane : Option ℕ) (vars : List ℕ) : Type 0 where
   pub few : length vars ≤ 4
-  pub point : IsPoint r lane
   pub valued : All (HasValueAt r lane) vars
   pub small : All (λ u. slice_index r.sched.extents u ≤ 4096) vars
 

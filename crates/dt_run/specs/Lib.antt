@@ -3,7 +3,6 @@ pub mod Clauses
 pub mod Forms
 pub mod Limits
 pub mod Outcome
-pub mod Refusals
 pub mod Running
 pub mod TensorText
 pub mod Visiting

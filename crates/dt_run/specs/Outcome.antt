@@ -13,11 +13,11 @@ use Rattle.dt_job.specs.declared.outputs.Show.TheVariants as show
 use Rattle.dt_job.specs.Read.{StatedJob, job_of}
 use Rattle.dt_run.specs.Forms.{form_of}
 use Rattle.dt_run.specs.Limits.{plan_cause_of}
-use Rattle.dt_run.specs.Refusals.{line_end, refused_line_text, refused_plan_text, too_long_text}
+use Rattle.dt_refusal.specs.Refusals.{line_end, refused_line_text, refused_plan_text, too_long_text}
 use Rattle.dt_run.specs.TensorText.{tensor_text}
 use Rattle.dt_run.specs.declared.form.Form.{Form}
 use Rattle.dt_run.specs.declared.form.Form.TheVariants as form
-use Rattle.dt_run.specs.declared.plan_cause.PlanCause.{PlanCause}
+use Rattle.dt_refusal.specs.declared.plan_cause.PlanCause.{PlanCause}
 use Rattle.dt_run.specs.declared.status.Status.{Status}
 use Rattle.dt_run.specs.declared.status.Status.TheVariants as status
 

@@ -12,12 +12,12 @@ ghost use Rattle.dt_run.specs.TensorText.{dense_of, tensor_text};
 
 use crate::form::Form;
 use crate::limits::plan_cause;
-use crate::refusal::{refused_line, refused_plan};
 use crate::running::run_parts;
 use crate::tensor_text::put_tensor;
 use dt_base::{Bytes, Name, NoMemory, ShortText};
 use dt_job::{Job, JobEnd, Show, read_job};
 use dt_model::Whole;
+use dt_refusal::{refused_line, refused_plan};
 use std::alloc::Global;
 
 /// What is written for an input, and whether it was run.

@@ -9,36 +9,38 @@ ghost use Rattle.dt_nest.specs.Tree.{read_accesses};
 ghost use Rattle.dt_nest.specs.Run.{HasLaneValue, IsAtLeaf, OnLanes, is_among};
 ghost use Rattle.dt_nest.specs.Meaning.{factor_of, term_of, terms_of};
 ghost use Rattle.dt_nest.specs.World.{entries_of, world_of};
-ghost use Rattle.dt_nest.specs.Point.{env_at, valid_of, visit_of};
+ghost use Rattle.dt_nest.specs.Point.{IsPointOf, env_at, valid_of, visit_of};
 ghost use Rattle.dt_run.specs.AtVisit.{AreCoordinates, IsAccessOver, IsFactorAt, IsTermAt};
 
 use dt_model::{Access, Factor, Locator, Term, Whole};
-use dt_nest::Visits;
+use dt_nest::{Point, Visits};
 
 /// The values of the variables, and 0 behind them.
-pub fn coordinates<L: Locator>(visits: &Visits<L>, lane: Option<u32>, vars: &[u32]) -> [u32; 4]
-    requires { AreCoordinates visits.now lane vars.now }
-    ensures values { take (length vars.now) result ≡ map (env_at visits.now lane) vars.now }
-    ensures inside { IsSome (row_major (map (slice_index visits.now.sched.extents) vars.now) (map (env_at visits.now lane) vars.now)) }
+pub fn coordinates<L: Locator>(visits: &Visits<L>, point: &Point, vars: &[u32]) -> [u32; 4]
+    requires point { IsPointOf visits.now point.now }
+    requires vars { AreCoordinates visits.now point.now.lane vars.now }
+    ensures values { take (length vars.now) result ≡ map (env_at visits.now point.now.lane) vars.now }
+    ensures inside { IsSome (row_major (map (slice_index visits.now.sched.extents) vars.now) (map (env_at visits.now point.now.lane) vars.now)) }
 {
     let mut coords = [0u32; 4];
     for (i, var) in vars.iter().enumerate() {
-        coords[i] = visits.value_at(lane, *var) as u32;
+        coords[i] = visits.value_in(point, *var) as u32;
     }
     coords
 }
 
 fn access_number<L: Locator>(
     visits: &Visits<L>,
-    lane: Option<u32>,
+    point: &Point,
     access: &Access,
     tensors: &[Whole],
 ) -> u64
-    requires { AreCoordinates visits.now lane access.now.vars }
-    ensures { result ≡ entries_of tensors.now access.now.tensor (map (env_at visits.now lane) access.now.vars) }
+    requires point { IsPointOf visits.now point.now }
+    requires vars { AreCoordinates visits.now point.now.lane access.now.vars }
+    ensures { result ≡ entries_of tensors.now access.now.tensor (map (env_at visits.now point.now.lane) access.now.vars) }
 {
     let vars = access.vars.as_slice();
-    let coords = coordinates(visits, lane, vars);
+    let coords = coordinates(visits, point, vars);
     match tensors.get(access.tensor as usize) {
         None => 0,
         Some(tensor) => tensor.get(&coords[..vars.len()]).unwrap_or(0),
@@ -47,45 +49,43 @@ fn access_number<L: Locator>(
 
 fn factor_number<L: Locator>(
     visits: &Visits<L>,
-    lane: Option<u32>,
+    point: &Point,
     factor: &Factor,
     tensors: &[Whole],
 ) -> u64
-    requires { IsFactorAt visits.now lane factor.now }
-    ensures { result ≡ factor_of (entries_of tensors.now) (env_at visits.now lane) factor.now }
+    requires point { IsPointOf visits.now point.now }
+    requires factor { IsFactorAt visits.now point.now.lane factor.now }
+    ensures { result ≡ factor_of (entries_of tensors.now) (env_at visits.now point.now.lane) factor.now }
 {
     match factor {
         Factor::Literal(n) => *n,
-        Factor::Read(access) => access_number(visits, lane, access, tensors),
+        Factor::Read(access) => access_number(visits, point, access, tensors),
     }
 }
 
 fn product_number<L: Locator>(
     visits: &Visits<L>,
-    lane: Option<u32>,
+    point: &Point,
     factors: &[Factor],
     tensors: &[Whole],
 ) -> u64
-    requires { All (IsFactorAt visits.now lane) factors.now }
-    ensures { result ≡ product (map (factor_of (entries_of tensors.now) (env_at visits.now lane)) factors.now) % 2 ^ 64 }
+    requires point { IsPointOf visits.now point.now }
+    requires factors { All (IsFactorAt visits.now point.now.lane) factors.now }
+    ensures { result ≡ product (map (factor_of (entries_of tensors.now) (env_at visits.now point.now.lane)) factors.now) % 2 ^ 64 }
 {
     let mut product = 1u64;
     for factor in factors {
-        product = product.wrapping_mul(factor_number(visits, lane, factor, tensors));
+        product = product.wrapping_mul(factor_number(visits, point, factor, tensors));
     }
     product
 }
 
-fn term_number<L: Locator>(
-    visits: &Visits<L>,
-    lane: Option<u32>,
-    term: &Term,
-    tensors: &[Whole],
-) -> u64
-    requires { IsTermAt visits.now lane term.now }
-    ensures { result ≡ term_of (entries_of tensors.now) (env_at visits.now lane) term.now % 2 ^ 64 }
+fn term_number<L: Locator>(visits: &Visits<L>, point: &Point, term: &Term, tensors: &[Whole]) -> u64
+    requires point { IsPointOf visits.now point.now }
+    requires term { IsTermAt visits.now point.now.lane term.now }
+    ensures { result ≡ term_of (entries_of tensors.now) (env_at visits.now point.now.lane) term.now % 2 ^ 64 }
 {
-    let product = product_number(visits, lane, term.factors.as_slice(), tensors);
+    let product = product_number(visits, point, term.factors.as_slice(), tensors);
     if term.minus {
         product.wrapping_neg()
     } else {
@@ -96,31 +96,43 @@ fn term_number<L: Locator>(
 /// The sum of the terms at the last visit, modulo 2^64.
 fn terms_number<L: Locator>(
     visits: &Visits<L>,
-    lane: Option<u32>,
+    point: &Point,
     terms: &[Term],
     tensors: &[Whole],
 ) -> u64
-    requires { All (IsTermAt visits.now lane) terms.now }
-    ensures { result ≡ terms_of (entries_of tensors.now) (env_at visits.now lane) terms.now % 2 ^ 64 }
+    requires point { IsPointOf visits.now point.now }
+    requires terms { All (IsTermAt visits.now point.now.lane) terms.now }
+    ensures { result ≡ terms_of (entries_of tensors.now) (env_at visits.now point.now.lane) terms.now % 2 ^ 64 }
 {
     let mut sum = 0u64;
     for term in terms {
-        sum = sum.wrapping_add(term_number(visits, lane, term, tensors));
+        sum = sum.wrapping_add(term_number(visits, point, term, tensors));
     }
     sum
 }
 
 /// What one value of the last visit's substituted loop adds, modulo 2^64.
-fn lane_number<L: Locator>(visits: &Visits<L>, x: u32, terms: &[Term], tensors: &[Whole]) -> u64
+fn lane_number<L: Locator>(
+    visits: &Visits<L>,
+    x: u32,
+    terms: &[Term],
+    tensors: &[Whole],
+    values: &mut [Option<u32>],
+) -> u64
     requires within { OnLanes visits.now (λ lanes. x < lanes.extent) }
     requires terms { OnLanes visits.now (λ lanes. is_among x lanes.valid ≡ true) → All (IsTermAt visits.now (Some x)) terms.now }
-    ensures { result ≡ (if is_among x (valid_of visits.now) then terms_of (entries_of tensors.now) (env_at visits.now (Some x)) terms.now else 0) % 2 ^ 64 }
+    requires room { length values.old ≡ length visits.now.sched.names }
+    ensures number { result ≡ (if is_among x (valid_of visits.now) then terms_of (entries_of tensors.now) (env_at visits.now (Some x)) terms.now else 0) % 2 ^ 64 }
+    ensures room { length values.new ≡ length values.old }
 {
-    if visits.valid(x) {
-        terms_number(visits, Some(x), terms, tensors)
-    } else {
-        0
+    if !visits.enter_lane(x, values) {
+        return 0;
     }
+    let point = Point {
+        lane: Some(x),
+        values,
+    };
+    terms_number(visits, &point, terms, tensors)
 }
 
 /// What the values of the last visit's substituted loop add, modulo 2^64.
@@ -129,27 +141,37 @@ fn lanes_number<L: Locator>(
     extent: u32,
     terms: &[Term],
     tensors: &[Whole],
+    values: &mut [Option<u32>],
 ) -> u64
     requires extent { OnLanes visits.now (λ lanes. extent ≡ lanes.extent) }
     requires terms { (x : ℕ) → OnLanes visits.now (λ lanes. is_among x lanes.valid ≡ true) → All (IsTermAt visits.now (Some x)) terms.now }
-    ensures { result ≡ sum_by (λ x. terms_of (entries_of tensors.now) (env_at visits.now (Some x)) terms.now) (filter (λ x. is_among x (valid_of visits.now)) (range_with_len 0 extent)) % 2 ^ 64 }
+    requires room { length values.old ≡ length visits.now.sched.names }
+    ensures number { result ≡ sum_by (λ x. terms_of (entries_of tensors.now) (env_at visits.now (Some x)) terms.now) (filter (λ x. is_among x (valid_of visits.now)) (range_with_len 0 extent)) % 2 ^ 64 }
+    ensures room { length values.new ≡ length values.old }
 {
     let mut sum = 0u64;
     for x in 0..extent {
-        sum = sum.wrapping_add(lane_number(visits, x, terms, tensors));
+        sum = sum.wrapping_add(lane_number(visits, x, terms, tensors, values));
     }
     sum
 }
 
-/// What the last visit adds, modulo 2^64.
-pub fn visit_number<L: Locator>(visits: &Visits<L>, terms: &[Term], tensors: &[Whole]) -> u64
+/// What the last visit adds, modulo 2^64. There is room for the values of all variables at a value of a substituted loop.
+pub fn visit_number<L: Locator>(
+    visits: &Visits<L>,
+    terms: &[Term],
+    tensors: &[Whole],
+    values: &mut [Option<u32>],
+) -> u64
     requires leaf { IsAtLeaf visits.now }
     requires terms { terms.now ≡ (visit_of visits.now).leaf.terms }
     requires reads { AllByRecursion (λ a. IsAccessOver (shapes_of tensors.now) visits.now.sched.extents a × AllByRecursion (HasLaneValue visits.now) a.vars) (read_accesses terms.now) }
-    ensures { result ≡ visit_sum (world_of visits.now.stored visits.now.sched) visits.now.sched.derived (entries_of tensors.now) (visit_of visits.now) % 2 ^ 64 }
+    requires room { length values.old ≡ length visits.now.sched.names }
+    ensures number { result ≡ visit_sum (world_of visits.now.stored visits.now.sched) visits.now.sched.derived (entries_of tensors.now) (visit_of visits.now) % 2 ^ 64 }
+    ensures room { length values.new ≡ length values.old }
 {
     match visits.lanes() {
-        None => terms_number(visits, None, terms, tensors),
-        Some(extent) => lanes_number(visits, extent, terms, tensors),
+        None => terms_number(visits, &visits.point(), terms, tensors),
+        Some(extent) => lanes_number(visits, extent, terms, tensors, values),
     }
 }

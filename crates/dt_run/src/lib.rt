@@ -1,12 +1,11 @@
-//! The program over any source and sink: a job is read and run, and its answer is written.
+//! The program over any source and sink. In: words, a source and a sink. Out: a status, and the answer in the sink. Proved
+//! by the clauses of `distal`.
 #![tactic(auto)]
 
 mod answering;
 mod at_visit;
 mod form;
 mod limits;
-mod plan_cause;
-mod refusal;
 mod running;
 mod status;
 mod tensor_text;

@@ -3,8 +3,8 @@
 ghost use Rattle.std.specs.Prelude.{◌≡◌};
 ghost use Rattle.dt_run.specs.Limits.{plan_cause_of};
 
-use crate::plan_cause::PlanCause;
 use dt_plan::{Part, has_too_many_visits};
+use dt_refusal::PlanCause;
 
 /// The first limit of a plan that the parts pass.
 pub fn plan_cause(parts: &[Part]) -> Option<PlanCause>

@@ -4,7 +4,7 @@ ghost use Rattle.std.specs.Prelude.{◌≡◌, ◌+◌, ◌*◌, ◌/◌, ◌<�
 ghost use Rattle.dt_base.specs.Rows.{product};
 ghost use Rattle.dt_model.specs.Shape.{dims, IsShape};
 ghost use Rattle.dt_tensor.specs.Packed.{dense_tensor};
-ghost use Rattle.dt_run.specs.Refusals.{line_end};
+ghost use Rattle.dt_refusal.specs.Refusals.{line_end};
 ghost use Rattle.dt_run.specs.TensorText.{cut_text, row_length as length_of_rows, row_text, shape_text, tensor_text};
 
 use dt_base::{Bytes, Name, NoMemory};

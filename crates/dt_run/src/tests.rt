@@ -1,31 +1,10 @@
-//! Texts of refusals and of tensors.
+//! Texts of tensors.
 
-use crate::refusal::refused_line;
 use crate::tensor_text::put_tensor;
 use dt_base::{Bytes, Name};
-use dt_model::{Cause, Shape};
+use dt_model::Shape;
 use std::alloc::Global;
 use std::test::Fail;
-
-fn refusal(line: u32, cause: Cause, text: &[u8]) -> bool {
-    refused_line(line, &cause).as_slice() == text
-}
-
-#[test]
-fn refuses_with_the_cause_and_its_arguments(rt: HostRuntime) {
-    let extent = Cause::WrongExtent(Name::from_slice(b"io"), 3, 4);
-    let tensor = Cause::UnknownTensor(Name::from_slice(b"D"));
-    assert!(rt; refusal(1, Cause::Syntax, b"refused line 1: Syntax\n"));
-    assert!(rt; refusal(2, Cause::BadByte(3), b"refused line 2: BadByte 3\n"));
-    assert!(rt; refusal(8, tensor, b"refused line 8: UnknownTensor D\n"));
-    assert!(rt;
-        refusal(
-            u32::MAX,
-            extent,
-            b"refused line 4294967295: WrongExtent io 3 4\n"
-        )
-    );
-}
 
 fn prints(alloc: Global, extents: &[u32], values: &[u64], text: &[u8]) -> Result<bool, Fail> {
     let shape = Shape::from_extents(extents).ok_or("no shape")?;

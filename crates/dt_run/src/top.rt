@@ -10,6 +10,7 @@ use crate::answering::{Answer, answer_to};
 use crate::form::form_of;
 use crate::status::Status;
 use dt_io::{ReadEnd, Sink, Source, read_all, write_all};
+use dt_refusal::refused_too_long;
 use std::alloc::Global;
 
 /// The most bytes of an input.
@@ -53,7 +54,7 @@ pub fn distal<R: Source, W: Sink>(
         Ok(bytes) => bytes,
         Err(ReadEnd::Failed) => return Status::ReadFault,
         Err(ReadEnd::NoMemory) => return Status::NoMemory,
-        Err(ReadEnd::TooLong) => return write(out, Status::Refused, b"refused input: TooLong\n"),
+        Err(ReadEnd::TooLong) => return write(out, Status::Refused, refused_too_long().as_slice()),
     };
     match answer_to(alloc, form, bytes.as_slice()) {
         Ok(Answer::Text(text)) => write(out, Status::Done, text.as_slice()),

@@ -23,6 +23,7 @@ use std::alloc::Global;
 
 /// Adds a number to the one at the coordinates of the left access, modulo 2^64.
 fn add_number<L: Locator>(visits: &Visits<L>, lhs: &Access, number: u64, tensors: &mut Vec<Whole>)
+    requires leaf { IsAtLeaf visits.now }
     requires vars { AreCoordinates visits.now None lhs.now.vars }
     requires fits { slice_get (shapes_of tensors.old.items) lhs.now.tensor ≡ Some (map (slice_index visits.now.sched.extents) lhs.now.vars) }
     ensures entries { entries_of tensors.new.items ≡ with_more (entries_of tensors.old.items) lhs.now.tensor (map (env_at visits.now None) lhs.now.vars) number }
@@ -30,7 +31,7 @@ fn add_number<L: Locator>(visits: &Visits<L>, lhs: &Access, number: u64, tensors
     ensures shapes { shapes_of tensors.new.items ≡ shapes_of tensors.old.items }
 {
     let vars = lhs.vars.as_slice();
-    let coords = coordinates(visits, None, vars);
+    let coords = coordinates(visits, &visits.point(), vars);
     let c = &coords[..vars.len()];
     let left = &mut tensors[lhs.tensor as usize];
     let old = left.get(c).unwrap_or(0);
@@ -38,34 +39,42 @@ fn add_number<L: Locator>(visits: &Visits<L>, lhs: &Access, number: u64, tensors
 }
 
 /// Adds what the last visit adds to its left tensor.
-fn add_visit<L: Locator>(visits: &Visits<L>, tensors: &mut Vec<Whole>)
+fn add_visit<L: Locator>(visits: &Visits<L>, tensors: &mut Vec<Whole>, values: &mut [Option<u32>])
     requires leaf { IsAtLeaf visits.now }
+    requires room { length values.old ≡ length visits.now.sched.names }
     requires over { IsLeafOver (shapes_of tensors.old.items) visits.now.sched (visit_of visits.now).leaf }
     ensures entries { entries_of tensors.new.items ≡ effect_of (world_of visits.now.stored visits.now.sched) visits.now.sched.derived (IsVisit (visit_of visits.now)) (entries_of tensors.old.items) }
     ensures others { (d : WholeTensor) → slice_set tensors.new.items (output_of visits.now.sched.nest) d ≡ slice_set tensors.old.items (output_of visits.now.sched.nest) d }
     ensures shapes { shapes_of tensors.new.items ≡ shapes_of tensors.old.items }
+    ensures room { length values.new ≡ length values.old }
 {
     match visits.leaf() {
         Nest::Loop { .. } => {}
         Nest::Pre { .. } => {}
         Nest::Leaf { lhs, terms, .. } => {
-            let number = visit_number(visits, terms.as_slice(), tensors.as_slice());
+            let number = visit_number(visits, terms.as_slice(), tensors.as_slice(), values);
             add_number(visits, lhs, number, tensors);
         }
     }
 }
 
 /// Runs the next item, and tells whether there was one. A reset changes no tensor.
-fn run_next<L: Locator>(visits: &mut Visits<L>, tensors: &mut Vec<Whole>) -> bool
-    requires { IsReady visits.old tensors.old.items }
+fn run_next<L: Locator>(
+    visits: &mut Visits<L>,
+    tensors: &mut Vec<Whole>,
+    values: &mut [Option<u32>],
+) -> bool
+    requires ready { IsReady visits.old tensors.old.items }
+    requires room { length values.old ≡ length visits.old.sched.names }
     ensures gone { HasGoneOn visits.old visits.new tensors.old.items tensors.new.items }
     ensures fewer { MatchBool result (length visits.new.left < length visits.old.left) (visits.new.left ≡ []) }
+    ensures room { length values.new ≡ length values.old }
 {
     match visits.next() {
         None => false,
         Some(Visit::Reset(_)) => true,
         Some(Visit::Leaf) => {
-            add_visit(visits, tensors);
+            add_visit(visits, tensors, values);
             true
         }
     }
@@ -106,7 +115,9 @@ pub fn add_visits<L: Locator>(
 {
     let left = left_of(&sched.parts().nest);
     let mut visits = Visits::over(alloc, sched, loc, &[])?;
-    'visits: while run_next(&mut visits, tensors) {}
+    let mut room = visits.lane_room(alloc)?;
+    let values = room.as_mut_slice();
+    'visits: while run_next(&mut visits, tensors, values) {}
     let _words = words(&tensors[left as usize]);
     visits_add_the_sum();
     Ok(())

@@ -1,4 +1,6 @@
-//! Sorted sets of numbers, kept as intervals. Contracts see such a set as the ascending list of its numbers.
+//! Sorted sets of numbers, kept as intervals. In: numbers, or boxes of numbers. Out: sets, their unions and common parts,
+//! the rank of a number. Contracts see a set as the ascending list of its numbers, and each call gives exactly the list
+//! that its clause names.
 #![tactic(auto)]
 
 mod boxes;

@@ -11,18 +11,6 @@ use Rattle.dt_model.specs.Steps.{◌>>=◌, Fails}
 use Rattle.dt_model.proofs.Fronts.{with_front, with_front-end}
 use Rattle.dt_schedule.specs.NamesOf.{each}
 
--- the words from the i-th on
-abbrev pub words_from : List ℕ → List Token → ℕ → List (List ℕ)
-words_from text tokens i = map (token_in text) (drop i tokens)
-
--- the next word, and those behind it
-pub words_from-next : (text : List ℕ) (tokens : List Token) (i : ℕ) (d : Token) (w : List ℕ) → i < length tokens → w ≡ token_in text (get_or tokens i d) → words_from text tokens i ≡ w ∷ words_from text tokens (i + 1)
-words_from-next text tokens i d w h e = rw add-one (ap (λ (ts : List Token). map (token_in text) ts) (drop-cons tokens i d h) ∙ ap (λ (x : List ℕ). x ∷ map (token_in text) (drop (suc i) tokens)) (sym e))
-
--- no word is left
-pub words_from-end : (text : List ℕ) (tokens : List Token) (i : ℕ) → length tokens ≤ i → words_from text tokens i ≡ []
-words_from-end text tokens i h = ap (λ (ts : List Token). map (token_in text) ts) (drop_all i tokens h)
-
 -- the next element, and those behind it
 pub drop-next : {A : Type 0} (xs : List A) (i : ℕ) (x : A) → i < length xs → x ≡ get_or xs i x → drop i xs ≡ x ∷ drop (i + 1) xs
 drop-next xs i x h e = rw add-one (drop-cons xs i x h ∙ ap (λ y. y ∷ drop (suc i) xs) (sym e))

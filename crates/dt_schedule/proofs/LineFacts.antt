@@ -21,7 +21,7 @@ use Rattle.dt_schedule.specs.CommandForms.{command_of, form_of}
 use Rattle.dt_schedule.specs.Communicates.{communicate_names, communicate_of}
 use Rattle.dt_schedule.specs.Distributes.{distribute_of}
 use Rattle.dt_schedule.specs.Divides.{divide_of}
-use Rattle.dt_schedule.specs.NamesOf.{names_of, loops_of, tensors_of, loop_of}
+use Rattle.dt_schedule.specs.NamesOf.{names_of, loops_in, loops_of, tensors_of, loop_of}
 use Rattle.dt_schedule.specs.Reorders.{reorder_of}
 use Rattle.dt_schedule.specs.Rotates.{rotate_names, rotate_of}
 use Rattle.dt_schedule.specs.Splits.{split_of}
@@ -31,57 +31,57 @@ use Rattle.dt_schedule.specs.CommandLaws.{command_keeps}
 
 -- The command of a line ---------------------------------------------------------------------------------------------------
 
--- the command is for the machine, and all tensors suit it
-abbrev pub IsFor : Schedule → List ℕ → Command → Type 0
-IsFor s grid c = (rule_of c).serves grid × ((stored : List StoredTensor) → (rule_of c).suits stored s)
+-- the command is for the machine, and the tensors suit it
+abbrev pub IsFor : Schedule → List ℕ → List StoredTensor → Command → Type 0
+IsFor s grid stored c = (rule_of c).serves grid × (rule_of c).suits stored s
 
 -- what holds of each result of the next step holds after it
 after : {A : Type 0} (P : Command → Type 0) (r : Result A Cause) (k : A → Result Command Cause) → ((x : A) → IfOk (k x) P) → IfOk (r >>= k) P
 after P (Ok x) k h = h x
 after P (Err e) k h = tt
 
-module _ (s : Schedule) (grid : List ℕ) where
-  split_for : (words : List (List ℕ)) → IfOk (split_of s words) (IsFor s grid)
+module _ (s : Schedule) (grid : List ℕ) (stored : List StoredTensor) where
+  split_for : (words : List (List ℕ)) → IfOk (split_of s words) (IsFor s grid stored)
   unfolding split_of
-  split_for words = after (IsFor s grid) (two_loops_of s words) _ (λ t. (tt, λ stored. tt))
+  split_for words = after (IsFor s grid stored) (two_loops_of s words) _ (λ t. (tt, tt))
 
-  divide_for : (words : List (List ℕ)) → IfOk (divide_of s words) (IsFor s grid)
+  divide_for : (words : List (List ℕ)) → IfOk (divide_of s words) (IsFor s grid stored)
   unfolding divide_of
-  divide_for words = after (IsFor s grid) (two_loops_of s words) _ (λ t. (tt, λ stored. tt))
+  divide_for words = after (IsFor s grid stored) (two_loops_of s words) _ (λ t. (tt, tt))
 
-  reorder_for : (words : List (List ℕ)) → IfOk (reorder_of s words) (IsFor s grid)
+  reorder_for : (words : List (List ℕ)) → IfOk (reorder_of s words) (IsFor s grid stored)
   unfolding reorder_of
-  reorder_for words = after (IsFor s grid) (names_of words) _ (λ names. after (IsFor s grid) _ _ (λ u. after (IsFor s grid) (loops_of s names) _ (λ vars. (tt, λ stored. tt))))
+  reorder_for words = after (IsFor s grid stored) (loops_in s 2 words) _ (λ vars. (tt, tt))
 
-  collapse_for : (words : List (List ℕ)) → IfOk (collapse_of s words) (IsFor s grid)
+  collapse_for : (words : List (List ℕ)) → IfOk (collapse_of s words) (IsFor s grid stored)
   unfolding collapse_of
   collapse_for [] = tt
   collapse_for (a ∷ []) = tt
   collapse_for (a ∷ b ∷ []) = tt
-  collapse_for (a ∷ b ∷ fused ∷ []) = after (IsFor s grid) _ _ (λ u. after (IsFor s grid) (loop_of s a) _ (λ outer. after (IsFor s grid) (loop_of s b) _ (λ inner. (tt, λ stored. tt))))
+  collapse_for (a ∷ b ∷ fused ∷ []) = after (IsFor s grid stored) _ _ (λ u. after (IsFor s grid stored) (loop_of s a) _ (λ outer. after (IsFor s grid stored) (loop_of s b) _ (λ inner. (tt, tt))))
   collapse_for (a ∷ b ∷ c ∷ d ∷ words) = tt
 
-  rotate_for : (words : List (List ℕ)) → IfOk (rotate_of s words) (IsFor s grid)
+  rotate_for : (words : List (List ℕ)) → IfOk (rotate_of s words) (IsFor s grid stored)
   unfolding rotate_of rotate_names
-  rotate_for words = after (IsFor s grid) (names_of words) _ named
+  rotate_for words = after (IsFor s grid stored) (names_of words) _ named
     where
-      named : (names : List (List ℕ)) → IfOk (rotate_names s names) (IsFor s grid)
+      named : (names : List (List ℕ)) → IfOk (rotate_names s names) (IsFor s grid stored)
       named [] = tt
-      named (t ∷ names) = after (IsFor s grid) _ _ (λ u. after (IsFor s grid) (loop_of s t) _ (λ var. after (IsFor s grid) (loops_of s _) _ (λ by. (tt, λ stored. tt))))
+      named (t ∷ names) = after (IsFor s grid stored) _ _ (λ u. after (IsFor s grid stored) (loop_of s t) _ (λ var. after (IsFor s grid stored) (loops_of s _) _ (λ by. (tt, tt))))
 
-  distribute_for : (words : List (List ℕ)) → IfOk (distribute_of s grid words) (IsFor s grid)
+  distribute_for : (words : List (List ℕ)) → IfOk (distribute_of s grid words) (IsFor s grid stored)
   unfolding distribute_of
-  distribute_for words = after (IsFor s grid) (names_of words) _ (λ names. after (IsFor s grid) _ _ (λ u. after (IsFor s grid) (loops_of s names) _ (λ vars. (refl, λ stored. tt))))
+  distribute_for words = after (IsFor s grid stored) (loops_in s 1 words) _ (λ vars. (refl, tt))
 
-  communicate_for : (words : List (List ℕ)) → IfOk (communicate_of s words) (IsFor s grid)
+  communicate_for : (words : List (List ℕ)) → IfOk (communicate_of s words) (IsFor s grid stored)
   unfolding communicate_of communicate_names
-  communicate_for words = after (IsFor s grid) (names_of words) _ named
+  communicate_for words = after (IsFor s grid stored) (names_of words) _ named
     where
-      named : (names : List (List ℕ)) → IfOk (communicate_names s names) (IsFor s grid)
+      named : (names : List (List ℕ)) → IfOk (communicate_names s names) (IsFor s grid stored)
       named [] = tt
-      named (v ∷ names) = after (IsFor s grid) _ _ (λ u. after (IsFor s grid) (loop_of s v) _ (λ var. after (IsFor s grid) (tensors_of s names) _ (λ tensors. (tt, λ stored. tt))))
+      named (v ∷ names) = after (IsFor s grid stored) _ _ (λ u. after (IsFor s grid stored) (loop_of s v) _ (λ var. after (IsFor s grid stored) (tensors_of s names) _ (λ tensors. (tt, tt))))
 
-  form_for : (k : CommandWord) (words : List (List ℕ)) → IfOk (form_of s grid k words) (IsFor s grid)
+  form_for : (k : CommandWord) (words : List (List ℕ)) → IfOk (form_of s grid stored k words) (IsFor s grid stored)
   unfolding form_of
   form_for kind.Split words = split_for words
   form_for kind.Divide words = divide_for words
@@ -92,38 +92,39 @@ module _ (s : Schedule) (grid : List ℕ) where
   form_for kind.Communicate words = communicate_for words
 
   -- the command of a line is for the machine whose dimensions it gets
-  pub command_for : (words : List (List ℕ)) → IfOk (command_of s grid words) (IsFor s grid)
+  pub command_for : (words : List (List ℕ)) → IfOk (command_of s grid stored words) (IsFor s grid stored)
   unfolding command_of
   command_for [] = tt
-  command_for (word ∷ words) = after (IsFor s grid) (found (word_of word) cause.UnknownWord) _ (λ k. form_for k words)
+  command_for (word ∷ words) = after (IsFor s grid stored) (found (word_of word) cause.UnknownWord) _ (λ k. form_for k words)
 
 -- What a line keeps -------------------------------------------------------------------------------------------------------
 
 -- a command of a line that is done keeps what a line keeps
-pub answers_keep : (s : Schedule) (grid : List ℕ) (words : List (List ℕ)) (c : Command) → IsLawful s → command_of s grid words ≡ Ok c → (rule_of c).can s → (r : Result Schedule RewriteEnd)
-    → Answers ((rule_of c).cause s) ((rule_of c).effect s) s r → IfOk r (λ new. LineKeeps grid s new)
-answers_keep s grid words c l e k (Ok new) a =
-    let for : IsFor s grid c = subst (λ (r : Result Command Cause). IfOk r (IsFor s grid)) e (command_for s grid words) in
+pub answers_keep : (s : Schedule) (grid : List ℕ) (stored : List StoredTensor) (words : List (List ℕ)) (c : Command) → IsLawful s → command_of s grid stored words ≡ Ok c → (rule_of c).can s → (r : Result Schedule RewriteEnd)
+    → Answers ((rule_of c).cause s) ((rule_of c).effect s) s r → IfOk r (λ new. LineKeeps grid stored s new)
+answers_keep s grid stored words c l e k (Ok new) a =
+    let for : IsFor s grid stored c = subst (λ (r : Result Command Cause). IfOk r (IsFor s grid stored)) e (command_for s grid stored words) in
     let t = command_keeps c s l k a.0 in
-    subst (LineKeeps grid s) (sym a.1) (record { sum = t.sum; accesses = t.accesses; fit = λ stored f. t.fit stored (for.1 stored) f; grid = λ g. t.grid grid for.0 g })
-answers_keep s grid words c l e k (Err end) a = tt
+    subst (LineKeeps grid stored s) (sym a.1) (record { sum = t.sum; accesses = t.accesses; fit = λ f. t.fit stored for.1 f; grid = λ g. t.grid grid for.0 g })
+answers_keep s grid stored words c l e k (Err end) a = tt
 
 -- so the parts of that
-pub keeps_sum : (s : Schedule) (grid : List ℕ) (r : Result Schedule RewriteEnd) → IfOk r (λ new. LineKeeps grid s new) → IfOk r (λ new. KeepsSum s new)
-keeps_sum s grid (Ok new) k = k.sum
-keeps_sum s grid (Err end) k = tt
+module _ (s : Schedule) (grid : List ℕ) (stored : List StoredTensor) where
+  pub keeps_sum : (r : Result Schedule RewriteEnd) → IfOk r (λ new. LineKeeps grid stored s new) → IfOk r (λ new. KeepsSum s new)
+  keeps_sum (Ok new) k = k.sum
+  keeps_sum (Err end) k = tt
 
-pub keeps_accesses : (s : Schedule) (grid : List ℕ) (r : Result Schedule RewriteEnd) → IfOk r (λ new. LineKeeps grid s new) → IfOk r (λ new. KeepsAccesses s new)
-keeps_accesses s grid (Ok new) k = k.accesses
-keeps_accesses s grid (Err end) k = tt
+  pub keeps_accesses : (r : Result Schedule RewriteEnd) → IfOk r (λ new. LineKeeps grid stored s new) → IfOk r (λ new. KeepsAccesses s new)
+  keeps_accesses (Ok new) k = k.accesses
+  keeps_accesses (Err end) k = tt
 
-pub keeps_fit : (s : Schedule) (grid : List ℕ) (stored : List StoredTensor) → FitsStored stored s → (r : Result Schedule RewriteEnd) → IfOk r (λ new. LineKeeps grid s new) → IfOk r (λ new. FitsStored stored new)
-keeps_fit s grid stored f (Ok new) k = k.fit stored f
-keeps_fit s grid stored f (Err end) k = tt
+  pub keeps_fit : FitsStored stored s → (r : Result Schedule RewriteEnd) → IfOk r (λ new. LineKeeps grid stored s new) → IfOk r (λ new. FitsStored stored new)
+  keeps_fit f (Ok new) k = k.fit f
+  keeps_fit f (Err end) k = tt
 
-pub keeps_grid : (s : Schedule) (grid : List ℕ) (r : Result Schedule RewriteEnd) → IfOk r (λ new. LineKeeps grid s new) → IfOk r (λ new. IsOnGrid grid s → IsOnGrid grid new)
-keeps_grid s grid (Ok new) k = k.grid
-keeps_grid s grid (Err end) k = tt
+  pub keeps_grid : (r : Result Schedule RewriteEnd) → IfOk r (λ new. LineKeeps grid stored s new) → IfOk r (λ new. IsOnGrid grid s → IsOnGrid grid new)
+  keeps_grid (Ok new) k = k.grid
+  keeps_grid (Err end) k = tt
 
 -- No command that there is makes workspaces -------------------------------------------------------------------------------
 
@@ -137,9 +138,9 @@ same_works (command.Distribute c) s = refl
 same_works (command.Communicate c) s = refl
 
 -- a line keeps the workspaces, until a command makes some
-pub line_works : (s : Schedule) (grid : List ℕ) (words : List (List ℕ)) (new : Schedule) → command_line s grid words ≡ Ok new → new.works ≡ s.works
+pub line_works : (s : Schedule) (grid : List ℕ) (stored : List StoredTensor) (words : List (List ℕ)) (new : Schedule) → command_line s grid stored words ≡ Ok new → new.works ≡ s.works
 unfolding command_line
-line_works s grid words new h = read (command_of s grid words) h
+line_works s grid stored words new h = read (command_of s grid stored words) h
   where
     tested : (c : Command) (cause : Option Cause) → (none cause >>= λ _. Ok ((rule_of c).effect s)) ≡ Ok new → new.works ≡ s.works
     tested c None h = subst (λ (r : Result Schedule Cause). IfOk r (λ n. n.works ≡ s.works)) h (same_works c s)

@@ -30,10 +30,11 @@ rule_of (command.Rotate c) = rotate_rule c
 rule_of (command.Distribute c) = distribute_rule c
 rule_of (command.Communicate c) = communicate_rule c
 
--- the schedule after a command line, by the machine's dimensions and the line's words, or the first cause against the line
-unfoldable pub command_line : Schedule → List ℕ → List (List ℕ) → Result Schedule Cause
-command_line s grid words = do
-  c ← command_of s grid words
+-- the schedule after a command line, by the machine's dimensions, what the tensors store, and the line's words, or the first
+-- cause against the line
+unfoldable pub command_line : Schedule → List ℕ → List StoredTensor → List (List ℕ) → Result Schedule Cause
+command_line s grid stored words = do
+  c ← command_of s grid stored words
   _ ← none ((rule_of c).cause s)
   Ok ((rule_of c).effect s)
 
@@ -43,10 +44,10 @@ AnswersLine old line (Ok s) = line ≡ Ok s
 AnswersLine old line (Err (Illegal s c)) = (line ≡ Err c) × (s ≡ old)
 AnswersLine old line (Err (NoMemory s)) = s ≡ old
 
--- What a command line keeps on a machine with these dimensions: the sum and the accesses; stored tensors that fitted the
--- schedule fit the new one; distributed loops that were the machine's are so.
-pub record LineKeeps (dims : List ℕ) (old new : Schedule) : Type 0 where
+-- What a command line keeps on a machine with these dimensions, over tensors that store this: the sum and the accesses; the
+-- tensors fit the new schedule if they fitted the old one; distributed loops that were the machine's are so.
+pub record LineKeeps (dims : List ℕ) (stored : List StoredTensor) (old new : Schedule) : Type 0 where
   pub sum : KeepsSum old new
   pub accesses : KeepsAccesses old new
-  pub fit : (stored : List StoredTensor) → FitsStored stored old → FitsStored stored new
+  pub fit : FitsStored stored old → FitsStored stored new
   pub grid : IsOnGrid dims old → IsOnGrid dims new

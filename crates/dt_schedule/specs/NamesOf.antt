@@ -1,5 +1,5 @@
 -- Loops and tensors by their names.
-use Rattle.std.specs.Prelude.{ℕ, List, [], ◌∷◌, position, Result, Ok, Err}
+use Rattle.std.specs.Prelude.{ℕ, List, [], ◌∷◌, length, nat_le, position, Result, Ok, Err}
 use Rattle.std.specs.Str.{bytes_eq}
 use Rattle.dt_text.specs.Names.{is_name}
 use Rattle.dt_nest.specs.Tree.{has_loop}
@@ -48,3 +48,10 @@ name_in word = do
 -- words that are all names
 unfoldable pub names_of : List (List ℕ) → Result (List (List ℕ)) Cause
 names_of words = each name_in words
+
+-- the numbers of the loops that these words name, at least so many
+unfoldable pub loops_in : Schedule → ℕ → List (List ℕ) → Result (List ℕ) Cause
+loops_in s least words = do
+  names ← names_of words
+  _ ← need (nat_le least (length names)) cause.Syntax
+  loops_of s names

@@ -7,9 +7,9 @@ ghost use Rattle.dt_schedule.specs.Distributes.{distribute_of};
 ghost use Rattle.dt_schedule.specs.Commands.{rule_of};
 
 use crate::commands::Command;
-use crate::loop_names::{loops_named, read_names};
+use crate::loop_names::read_loops;
 use dt_base::Extents;
-use dt_model::{Cause, LineEnd};
+use dt_model::LineEnd;
 use dt_nest::Sched;
 use dt_rewrite::Distribute;
 use dt_text::Token;
@@ -28,12 +28,7 @@ pub fn read_distribute(
     ensures read { Gives (λ c. c) result (distribute_of sched.now grid.now (map (token_in text.now) tokens.now)) }
     ensures known { IfOk result (λ c. (rule_of c).can sched.now) }
 {
-    let names = read_names(alloc, text, tokens)?;
-    let names = names.as_slice();
-    if names.is_empty() {
-        return Err(LineEnd::Refused(Cause::Syntax));
-    }
-    let vars = loops_named(alloc, sched, names)?;
+    let vars = read_loops(alloc, text, tokens, sched, 1)?;
     let grid = Extents::from_slice(alloc, grid)?;
     Ok(Command::Distribute(Distribute { vars, grid }))
 }

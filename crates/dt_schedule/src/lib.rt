@@ -1,4 +1,5 @@
-//! Command lines: each is read, tested against the schedule, and applied to it.
+//! In: a command's line, and a schedule. Out: the schedule after it, or the line's first cause and the schedule as it was.
+//! Proved by `run_command`.
 #![tactic(auto)]
 
 mod collapses;
@@ -12,6 +13,7 @@ mod reading;
 mod reorders;
 mod rotates;
 mod running;
+mod site;
 mod splits;
 mod tensor_names;
 #[cfg(test)]

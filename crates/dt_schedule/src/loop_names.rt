@@ -6,7 +6,7 @@ ghost use Rattle.std.specs.Str.{bytes_eq};
 ghost use Rattle.dt_text.specs.Spans.{IsToken, token_in};
 ghost use Rattle.dt_model.specs.Steps.{Gives};
 ghost use Rattle.dt_nest.specs.Schedule.{seen};
-ghost use Rattle.dt_schedule.specs.NamesOf.{loop_of, loops_of, name_in, names_of};
+ghost use Rattle.dt_schedule.specs.NamesOf.{loop_of, loops_in, loops_of, name_in, names_of};
 
 use dt_base::{Name, Names, Vars};
 use dt_model::{Cause, LineEnd};
@@ -83,4 +83,25 @@ pub fn read_names(alloc: Global, text: &[u8], tokens: &[Token]) -> Result<Names,
         }
     }
     Ok(names)
+}
+
+/// The numbers of the loops that the words name: Syntax where they are fewer than `least`.
+#[tactic(auto, unfolding(crate::specs::NamesOf::loops_in))]
+pub fn read_loops(
+    alloc: Global,
+    text: &[u8],
+    tokens: &[Token],
+    sched: &Sched,
+    least: usize,
+) -> Result<Vars, LineEnd>
+    requires { All (IsToken (length text.now)) tokens.now }
+    ensures read { Gives (λ vs. vs) result (loops_in sched.now least (map (token_in text.now) tokens.now)) }
+    ensures known { IfOk result (λ vs. AllByRecursion (λ v. v < length sched.now.names) vs) }
+{
+    let names = read_names(alloc, text, tokens)?;
+    let names = names.as_slice();
+    if names.len() < least {
+        return Err(LineEnd::Refused(Cause::Syntax));
+    }
+    loops_named(alloc, sched, names)
 }

@@ -7,8 +7,8 @@ ghost use Rattle.dt_schedule.specs.Reorders.{reorder_of};
 ghost use Rattle.dt_schedule.specs.Commands.{rule_of};
 
 use crate::commands::Command;
-use crate::loop_names::{loops_named, read_names};
-use dt_model::{Cause, LineEnd};
+use crate::loop_names::read_loops;
+use dt_model::LineEnd;
 use dt_nest::Sched;
 use dt_rewrite::Reorder;
 use dt_text::Token;
@@ -26,11 +26,6 @@ pub fn read_reorder(
     ensures read { Gives (λ c. c) result (reorder_of sched.now (map (token_in text.now) tokens.now)) }
     ensures known { IfOk result (λ c. (rule_of c).can sched.now) }
 {
-    let names = read_names(alloc, text, tokens)?;
-    let names = names.as_slice();
-    if names.len() < 2 {
-        return Err(LineEnd::Refused(Cause::Syntax));
-    }
-    let vars = loops_named(alloc, sched, names)?;
+    let vars = read_loops(alloc, text, tokens, sched, 2)?;
     Ok(Command::Reorder(Reorder { vars }))
 }

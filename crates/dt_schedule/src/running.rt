@@ -9,30 +9,31 @@ ghost use Rattle.dt_schedule.specs.Commands.{AnswersLine, LineKeeps, command_lin
 
 use crate::commands::Command;
 use crate::reading::read_command;
+use crate::site::Site;
 use dt_base::Names;
 use dt_model::{LineEnd, Locator};
 use dt_nest::{Rewrite, RewriteEnd, Sched};
 use dt_text::words;
 use std::alloc::Global;
 
-/// Does what a command line says to a schedule, whatever tensors there are.
+/// Does what a command line says to a schedule.
 #[tactic(auto, unfolding(crate::specs::Commands::command_line))]
-pub(crate) fn commanded(
+pub(crate) fn commanded<L: Locator>(
     alloc: Global,
     sched: Sched,
     text: &[u8],
-    grid: &[u32],
+    site: &Site<'_, L>,
 ) -> Result<Sched, RewriteEnd>
     requires { length text.now < 2 ^ 32 - 1 }
-    ensures answers { AnswersLine sched (command_line sched grid.now (tokens_of text.now)) result }
-    ensures keeps { IfOk result (λ s. LineKeeps grid.now sched s) }
+    ensures answers { AnswersLine sched (command_line sched site.now.grid.now (L.tensors site.now.loc.now) (tokens_of text.now)) result }
+    ensures keeps { IfOk result (λ s. LineKeeps site.now.grid.now (L.tensors site.now.loc.now) sched s) }
 {
     let _lawful = sched.parts();
     let tokens = match words(alloc, text) {
         Ok(tokens) => tokens,
         Err(_) => return Err(RewriteEnd::NoMemory(sched)),
     };
-    match read_command(alloc, text, tokens.as_slice(), &sched, grid) {
+    match read_command(alloc, text, tokens.as_slice(), &sched, site) {
         Ok(command) => command.apply(alloc, sched),
         Err(LineEnd::Refused(cause)) => Err(RewriteEnd::Illegal(sched, cause)),
         Err(LineEnd::NoMemory) => Err(RewriteEnd::NoMemory(sched)),
@@ -52,11 +53,11 @@ pub fn run_command<L: Locator>(
     requires line { length text.now < 2 ^ 32 - 1 }
     requires names { tensors.now ≡ sched.tensors }
     requires located { FitsStored (L.tensors loc.now) sched }
-    ensures answers { AnswersLine sched (command_line sched grid.now (tokens_of text.now)) result }
+    ensures answers { AnswersLine sched (command_line sched grid.now (L.tensors loc.now) (tokens_of text.now)) result }
     ensures keeps { IfOk result (λ s. KeepsSum sched s) }
     ensures fits { IfOk result (λ s. FitsStored (L.tensors loc.now) s) }
     ensures stays { IfOk result (λ s. KeepsAccesses sched s) }
     ensures grid { IfOk result (λ s. IsOnGrid grid.now sched → IsOnGrid grid.now s) }
 {
-    commanded(alloc, sched, text, grid)
+    commanded(alloc, sched, text, &Site { grid, loc })
 }

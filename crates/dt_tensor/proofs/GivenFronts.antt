@@ -1,4 +1,4 @@
--- The numbers of the entries' fronts, and where they stand.
+-- The numbers of the entries and of their fronts, and where they stand.
 use Rattle.std.proofs.Common.{◌≡◌, ℕ, zero, suc, ◌+◌, ◌-◌, ◌*◌, ◌/◌, ◌<◌, ◌≤◌, ◌==◌, ◌^◌, List, [], ◌∷◌, ◌++◌, append-nil, length, get_or, take, drop, map, refl, ap, ap₂, sym, ◌∙◌, subst, arith, Option, Some, None, IsSome, option_map, is_some, Bool, true, false, cond, ◌||◌, ◌&&◌, Contains, position, filter_map, option_to_list, inl, inr, nat_lt, nat_le}
 use Rattle.std.specs.List.{All, AllByRecursion, list_all, list_any, position_or_len}
 use Rattle.std.specs.List.Sorted.{IsStrictlyIncreasing}
@@ -7,7 +7,7 @@ use Rattle.std.proofs.Math.Nat.{div-one}
 use Rattle.std.proofs.lemmas.Bool.{cases_lt, eqb-true, and_from, lt-ltb, le-leb}
 use Rattle.std.proofs.lemmas.Bool.Decides.{eqb_tells}
 use Rattle.std.proofs.lemmas.List.{take_more, take_all, drop_all, length-map, get_or-map}
-use Rattle.std.proofs.lemmas.List.Elements.{filter_map-append, All-get_or, All-from_recursion}
+use Rattle.std.proofs.lemmas.List.Elements.{filter_map-append, All-get_or, All-from_recursion, recursion_from_All}
 use Rattle.std.proofs.lemmas.List.Folds.{Any-from_list_any, list_any_at}
 use Rattle.std.proofs.lemmas.Nat.{div_below}
 use Rattle.dt_base.specs.Rows.{product, row_major}
@@ -16,48 +16,39 @@ use Rattle.dt_base.proofs.Rows.{row_major-below}
 use Rattle.dt_level.proofs.SearchLemmas.{found_at, less_before, not_less_at}
 use Rattle.dt_runs.specs.Sets.{contains}
 use Rattle.dt_tensor.specs.Packed.{index_at}
-use Rattle.dt_tensor.specs.Packing.{fronts_given}
+use Rattle.dt_tensor.specs.Packing.{numbers_given, fronts_given, AreGiven}
 use Rattle.dt_tensor.specs.declared.entry.Given.{Given}
 use Rattle.dt_tensor.proofs.BehindFronts.{earlier_lt}
 use Rattle.dt_tensor.proofs.IndexNumbers.{product_cut}
 use Rattle.dt_tensor.proofs.StoredFronts.{place_by_number}
 use Rattle.dt_tensor.proofs.StoredTables.{Distinct}
 
--- one more entry, in the shape or not
-fronts_step : (ns : List ℕ) (size : ℕ) (entries : List Given) (i : ℕ) (e : Given) → i < length entries → e ≡ get_or entries i e
-    → fronts_given ns size (take (i + 1) entries) ≡ fronts_given ns size (take i entries) ++ fronts_given ns size (e ∷ [])
-fronts_step ns size entries i e h item =
-    ap (fronts_given ns size) (take_more entries i e h ∙ ap (λ (f : Given). take i entries ++ f ∷ []) (sym item))
-    ∙ filter_map-append (λ e. option_map (λ n. n / size) (row_major ns e.at)) (take i entries) (e ∷ [])
-
-pub fronts_more : (ns : List ℕ) (size : ℕ) (entries : List Given) (i n : ℕ) (e : Given) → i < length entries → e ≡ get_or entries i e → row_major ns e.at ≡ Some n
-    → fronts_given ns size (take (i + 1) entries) ≡ fronts_given ns size (take i entries) ++ (n / size) ∷ []
-fronts_more ns size entries i n e h item q = fronts_step ns size entries i e h item ∙ ap (λ (l : List ℕ). fronts_given ns size (take i entries) ++ l) (one (row_major ns e.at) q)
+-- one more entry, by the number that its index has
+pub numbers_push : (ns : List ℕ) (entries : List Given) (i : ℕ) (e : Given) (r : Option ℕ) → i < length entries → e ≡ get_or entries i e → row_major ns e.at ≡ r
+    → numbers_given ns (take (i + 1) entries) ≡ numbers_given ns (take i entries) ++ option_to_list r
+numbers_push ns entries i e r h item q =
+    ap (numbers_given ns) (take_more entries i e h ∙ ap (λ (f : Given). take i entries ++ f ∷ []) (sym item))
+    ∙ filter_map-append (λ e. row_major ns e.at) (take i entries) (e ∷ [])
+    ∙ ap (λ (l : List ℕ). numbers_given ns (take i entries) ++ l) (ap (λ (o : Option ℕ). filter_map (λ (r : Option ℕ). r) (o ∷ [])) q ∙ one r)
   where
-    one : (r : Option ℕ) → r ≡ Some n → filter_map (λ (r : Option ℕ). option_map (λ n. n / size) r) (r ∷ []) ≡ (n / size) ∷ []
-    one r q = rw q refl
-
-pub fronts_kept : (ns : List ℕ) (size : ℕ) (entries : List Given) (i : ℕ) (e : Given) → i < length entries → e ≡ get_or entries i e → row_major ns e.at ≡ None
-    → fronts_given ns size (take (i + 1) entries) ≡ fronts_given ns size (take i entries)
-fronts_kept ns size entries i e h item q = fronts_step ns size entries i e h item ∙ ap (λ (l : List ℕ). fronts_given ns size (take i entries) ++ l) (one (row_major ns e.at) q) ∙ append-nil (fronts_given ns size (take i entries))
-  where
-    one : (r : Option ℕ) → r ≡ None → filter_map (λ (r : Option ℕ). option_map (λ n. n / size) r) (r ∷ []) ≡ []
-    one r q = rw q refl
+    one : (r : Option ℕ) → filter_map (λ (r : Option ℕ). r) (r ∷ []) ≡ option_to_list r
+    one None = refl
+    one (Some n) = refl
 
 -- the number of an entry is among them
-pub given_contains : (ns : List ℕ) (entries : List Given) (i n : ℕ) (e : Given) → i < length entries → e ≡ get_or entries i e → row_major ns e.at ≡ Some n → contains (fronts_given ns 1 entries) n ≡ true
+pub given_contains : (ns : List ℕ) (entries : List Given) (i n : ℕ) (e : Given) → i < length entries → e ≡ get_or entries i e → row_major ns e.at ≡ Some n → contains (numbers_given ns entries) n ≡ true
 given_contains ns [] i n e h item q = absurd (omega arith)
 given_contains ns (x ∷ xs) zero n e h item q =
     let here : row_major ns x.at ≡ Some n = ap (λ (f : Given). row_major ns f.at) (sym item) ∙ q in
-    rw here (ap (λ (m : ℕ). (m == n) || contains (fronts_given ns 1 xs) n) (div-one n) ∙ ap (λ (b : Bool). b || contains (fronts_given ns 1 xs) n) (itself n))
+    rw here (ap (λ (b : Bool). b || contains (numbers_given ns xs) n) (itself n))
   where
     itself : (n : ℕ) → (n == n) ≡ true
     itself n = elim (eqb_tells n n) [ inl e ↦ e.0 | inr e ↦ absurd (e.1 refl) ]
 given_contains ns (x ∷ xs) (suc i) n e h item q = later (row_major ns x.at) refl (given_contains ns xs i n e (omega arith) item q)
   where
-    later : (r : Option ℕ) → row_major ns x.at ≡ r → contains (fronts_given ns 1 xs) n ≡ true → contains (fronts_given ns 1 (x ∷ xs)) n ≡ true
+    later : (r : Option ℕ) → row_major ns x.at ≡ r → contains (numbers_given ns xs) n ≡ true → contains (numbers_given ns (x ∷ xs)) n ≡ true
     later None s k = rw s k
-    later (Some m) s k = rw s (ap (λ (b : Bool). (m / 1 == n) || b) k ∙ always (m / 1 == n))
+    later (Some m) s k = rw s (ap (λ (b : Bool). (m == n) || b) k ∙ always (m == n))
       where
         always : (b : Bool) → (b || true) ≡ true
         always true = refl
@@ -84,26 +75,42 @@ contains_same xs ys x to from = both (contains xs x) (contains ys x) (λ h. cont
     both false true f g = absurd (let e = g refl in cc)
     both false false f g = refl
 
--- numbers that are among the fronts of entries are below their count
-given_within : (ns : List ℕ) (k : ℕ) (entries : List Given) → 0 < product (drop k ns) → AllByRecursion (λ f. f < product (take k ns)) (fronts_given ns (product (drop k ns)) entries)
-given_within ns k [] pos = tt
-given_within ns k (e ∷ es) pos = by_number (row_major ns e.at) refl (given_within ns k es pos)
-  where
-    by_number : (r : Option ℕ) → row_major ns e.at ≡ r → AllByRecursion (λ f. f < product (take k ns)) (fronts_given ns (product (drop k ns)) es) → AllByRecursion (λ f. f < product (take k ns)) (fronts_given ns (product (drop k ns)) (e ∷ es))
-    by_number None q rest = rw q rest
-    by_number (Some n) q rest = rw q (div_below n (product (drop k ns)) (product (take k ns)) pos (subst (λ (m : ℕ). n < m) (product_cut ns k) (row_major-below ns e.at n q)), rest)
+again : (xs : List ℕ) (i d : ℕ) → i < length xs → get_or xs i (get_or xs i d) ≡ get_or xs i d
+again [] i d h = absurd (omega arith)
+again (x ∷ xs) zero d h = refl
+again (x ∷ xs) (suc i) d h = again xs i d (omega arith)
 
-pub fronts_within : (ns : List ℕ) (k : ℕ) (entries : List Given) (fs : List ℕ) → 0 < product (drop k ns) → ((f : ℕ) → contains fs f ≡ contains (fronts_given ns (product (drop k ns)) entries) f)
+-- a list with the numbers of another keeps what holds of each of them
+all_same : (P : ℕ → Type 0) (xs ys : List ℕ) → ((x : ℕ) → contains xs x ≡ contains ys x) → AllByRecursion P ys → All P xs
+all_same P xs ys same all i d h =
+    let inside : contains xs (get_or xs i d) ≡ true = contains_from xs (get_or xs i d) (i, h, again xs i d h) in
+    let c = from_contains ys (get_or xs i d) (sym (same (get_or xs i d)) ∙ inside) in
+    subst P c.2 (All-from_recursion P ys all c.0 (get_or xs i d) c.1)
+
+-- the fronts of numbers of indices are below their count
+pub fronts_below : (ns : List ℕ) (k : ℕ) (numbers fs : List ℕ) → 0 < product (drop k ns) → All (λ n. n < product ns) numbers → ((f : ℕ) → contains fs f ≡ contains (map (λ n. n / product (drop k ns)) numbers) f)
     → All (λ f. f < product (take k ns)) fs
-fronts_within ns k entries fs pos same i d h =
-    let inside : contains fs (get_or fs i d) ≡ true = contains_from fs (get_or fs i d) (i, h, again fs i d h) in
-    let c = from_contains (fronts_given ns (product (drop k ns)) entries) (get_or fs i d) (sym (same (get_or fs i d)) ∙ inside) in
-    subst (λ (f : ℕ). f < product (take k ns)) c.2 (All-from_recursion (λ f. f < product (take k ns)) (fronts_given ns (product (drop k ns)) entries) (given_within ns k entries pos) c.0 (get_or fs i d) c.1)
+fronts_below ns k numbers fs pos below same = all_same (λ f. f < product (take k ns)) fs (map (λ n. n / product (drop k ns)) numbers) same (each numbers (recursion_from_All (λ n. n < product ns) numbers below))
   where
-    again : (xs : List ℕ) (i d : ℕ) → i < length xs → get_or xs i (get_or xs i d) ≡ get_or xs i d
-    again [] i d h = absurd (omega arith)
-    again (x ∷ xs) zero d h = refl
-    again (x ∷ xs) (suc i) d h = again xs i d (omega arith)
+    each : (ms : List ℕ) → AllByRecursion (λ n. n < product ns) ms → AllByRecursion (λ f. f < product (take k ns)) (map (λ n. n / product (drop k ns)) ms)
+    each [] h = tt
+    each (n ∷ ms) h = (div_below n (product (drop k ns)) (product (take k ns)) pos (subst (λ (m : ℕ). n < m) (product_cut ns k) h.0), each ms h.1)
+
+-- lists with the same numbers have the same images of them
+pub contains_map : (g : ℕ → ℕ) (xs ys : List ℕ) → ((x : ℕ) → contains xs x ≡ contains ys x) → (f : ℕ) → contains (map g xs) f ≡ contains (map g ys) f
+contains_map g xs ys same f = contains_same (map g xs) (map g ys) f (image xs ys same) (image ys xs (λ x. sym (same x)))
+  where
+    image : (xs ys : List ℕ) → ((x : ℕ) → contains xs x ≡ contains ys x) → Contains (map g xs) f → Contains (map g ys) f
+    image xs ys same h =
+        let room : h.0 < length xs = omega (arith, h.1, length-map xs g) in
+        let inside : contains xs (get_or xs h.0 0) ≡ true = contains_from xs (get_or xs h.0 0) (h.0, room, again xs h.0 0 room) in
+        let c = from_contains ys (get_or xs h.0 0) (sym (same (get_or xs h.0 0)) ∙ inside) in
+        (c.0, omega (arith, c.1, length-map ys g), get_or-map g ys c.0 (get_or xs h.0 0) f c.1 ∙ ap g c.2 ∙ sym (get_or-map g xs h.0 0 f room) ∙ h.2)
+
+-- numbers that are divided by 1
+pub divided_by_one : (xs : List ℕ) → xs ≡ map (λ n. n / 1) xs
+divided_by_one [] = refl
+divided_by_one (x ∷ xs) = ap₂ (λ (n : ℕ) (ns : List ℕ). n ∷ ns) (sym (div-one x)) (divided_by_one xs)
 
 -- different numbers are different indices
 pub numbers_distinct : (ns ps : List ℕ) → IsStrictlyIncreasing ps → All (λ p. p < product ns) ps → Distinct (map (index_at ns) ps)
@@ -144,22 +151,14 @@ among_at xs x k up h e =
 pub near_at : (xs : List ℕ) (x k : ℕ) → IsStrictlyIncreasing xs → k < length xs → get_or xs k 0 ≡ x → position (λ y. y == x) xs ≡ Some k
 near_at xs x k up h item = found_at xs x k h (λ i lt. subst (λ (m : ℕ). get_or xs i 0 < m) item (earlier_lt xs i k up lt h)) item
 
--- nothing is given before the first entry
-pub fronts_none : (ns : List ℕ) (size : ℕ) (entries : List Given) → [] ≡ fronts_given ns size (take 0 entries)
-fronts_none ns size [] = refl
-fronts_none ns size (e ∷ es) = refl
-
 -- the numbers of entries are below the product of the extents
-pub numbers_within : (ns : List ℕ) (entries : List Given) (ps : List ℕ) → ((f : ℕ) → contains ps f ≡ contains (fronts_given ns 1 entries) f) → All (λ p. p < product ns) ps
-numbers_within ns entries ps same =
-    subst (λ (ms : List ℕ). All (λ p. p < product ms) ps) (take_all (length ns) ns (omega arith))
-    (fronts_within ns (length ns) entries ps (subst (λ (s : ℕ). 0 < s) (sym one) (omega arith)) (λ f. same f ∙ ap (λ (s : ℕ). contains (fronts_given ns s entries) f) (sym one)))
+pub numbers_within : (ns : List ℕ) (entries : List Given) (ps : List ℕ) → AreGiven ns entries ps → All (λ p. p < product ns) ps
+numbers_within ns entries ps same = all_same (λ p. p < product ns) ps (numbers_given ns entries) same (each entries)
   where
-    one : product (drop (length ns) ns) ≡ 1
-    one = ap product (drop_all (length ns) ns (omega arith))
-
--- one more entry, by the number that its index has
-pub fronts_push : (ns : List ℕ) (size : ℕ) (entries : List Given) (i : ℕ) (e : Given) (r : Option ℕ) → i < length entries → e ≡ get_or entries i e → row_major ns e.at ≡ r
-    → fronts_given ns size (take (i + 1) entries) ≡ fronts_given ns size (take i entries) ++ option_to_list (option_map (λ n. n / size) r)
-fronts_push ns size entries i e None h item q = fronts_kept ns size entries i e h item q ∙ sym (append-nil (fronts_given ns size (take i entries)))
-fronts_push ns size entries i e (Some n) h item q = fronts_more ns size entries i n e h item q
+    each : (entries : List Given) → AllByRecursion (λ p. p < product ns) (numbers_given ns entries)
+    each [] = tt
+    each (e ∷ es) = by_number (row_major ns e.at) refl (each es)
+      where
+        by_number : (r : Option ℕ) → row_major ns e.at ≡ r → AllByRecursion (λ p. p < product ns) (numbers_given ns es) → AllByRecursion (λ p. p < product ns) (numbers_given ns (e ∷ es))
+        by_number None q rest = rw q rest
+        by_number (Some n) q rest = rw q (row_major-below ns e.at n q, rest)

@@ -5,7 +5,7 @@ use Rattle.std.specs.List.Sorted.{IsStrictlyIncreasing}
 use Rattle.std.proofs.lemmas.Bool.{cases_lt, lt-ltb, le-ltb}
 use Rattle.std.proofs.lemmas.Nat.{div-mul-add, div-add-mod', mod_below, mul-le}
 use Rattle.dt_tensor.proofs.IndexNumbers.{product_cut}
-use Rattle.std.proofs.lemmas.List.{length-map, get_or-map, same_lists}
+use Rattle.std.proofs.lemmas.List.{length-map, length-take-le, get_or-map, same_lists}
 use Rattle.std.proofs.lemmas.List.Elements.{recursion_from_All}
 use Rattle.std.proofs.lemmas.Bool.Decides.{nat_tests}
 use Rattle.std.proofs.lemmas.Slice.Eq.{bytes_eq-Decides}
@@ -15,10 +15,12 @@ use Rattle.dt_base.specs.Ranges.{assignments}
 use Rattle.dt_base.specs.Rows.{product, row_major}
 use Rattle.dt_model.specs.Positions.{StoredTensor, IsStored, begins, is_followed, stored_coords}
 use Rattle.dt_model.specs.WholeTensor.{WholeTensor}
-use Rattle.dt_model.specs.Shape.{shape_of_extents}
+use Rattle.dt_model.specs.Shape.{dims, shape_of_extents, IsShape}
+use Rattle.dt_model.specs.declared.shape.Shape.{Shape}
+use Rattle.dt_model.proofs.ShapeFacts.{shape_facts}
 use Rattle.dt_runs.specs.Sets.{contains}
 use Rattle.dt_tensor.specs.Packed.{Packed, IsCut, depth_of, index_at, numbers_behind, levels_with, dense_levels, packed_with, number_in, whole_of}
-use Rattle.dt_tensor.specs.Packing.{given_at, given_whole, first_offence, fronts_given, levels_asked, packed_by, packed_or, pack_of}
+use Rattle.dt_tensor.specs.Packing.{given_at, given_whole, first_offence, numbers_given, fronts_given, AreGiven, StoreGiven, levels_asked, packed_by, packed_or, pack_of}
 use Rattle.dt_tensor.specs.declared.entry.Given.{Given}
 use Rattle.dt_tensor.specs.declared.packing.PackEnd.{PackEnd}
 use Rattle.dt_tensor.specs.declared.packing.PackEnd.TheVariants as ends
@@ -27,7 +29,7 @@ use Rattle.dt_tensor.proofs.DenseTensors.{stored_coords-dense}
 use Rattle.dt_tensor.proofs.Depths.{depth_is, make_below, test_passes}
 use Rattle.dt_tensor.proofs.FrontSearch.{find_any}
 use Rattle.dt_tensor.proofs.StoredTables.{value_there}
-use Rattle.dt_tensor.proofs.GivenFronts.{fronts_within}
+use Rattle.dt_tensor.proofs.GivenFronts.{fronts_below, contains_map}
 use Rattle.dt_tensor.proofs.PackedStored.{Inside, stored_by_fronts, fronts_stored, given_begins}
 use Rattle.dt_tensor.proofs.StoredFronts.{product-drop-positive}
 
@@ -47,31 +49,60 @@ asked_dense ns comp entries levels e =
     record_of : List (List ℕ) → StoredTensor
     record_of cs = record { extents = ns; compressed = replicate (length ns) false; coords = cs }
 
--- the fronts of the entries are those of the levels that are asked for
-pub record AskedFacts (ns : List ℕ) (comp : List Bool) (fs : List ℕ) (entries : List Given) : Type 0 where
-  pub asked : levels_with ns comp fs ≡ levels_asked ns comp entries
+-- a level for each extent
+pub levels_match : (shape : Shape) (compressed : List Bool) → IsShape shape → shape.order ≤ length compressed → length (take shape.order compressed) ≡ length (dims shape)
+levels_match shape compressed lawful order = omega (arith, length-take-le shape.order compressed order, (shape_facts shape lawful).used)
+
+-- what levels with these fronts store
+pub record FrontFacts (ns : List ℕ) (comp : List Bool) (fs : List ℕ) : Type 0 where
   pub stored : IsStored (levels_with ns comp fs)
   pub within : All (λ f. f < product (take (depth_of comp) ns)) fs
   pub count : length (levels_with ns comp fs).coords ≡ length fs * product (drop (depth_of comp) ns)
 
-pub asked_packed : (ns : List ℕ) (comp : List Bool) (fs : List ℕ) (entries : List Given) → AllByRecursion (λ n. 1 ≤ n) ns → IsSome (shape_of_extents ns) → length comp ≡ length ns → 0 < depth_of comp
-    → IsStrictlyIncreasing fs → ((f : ℕ) → contains fs f ≡ contains (fronts_given ns (product (drop (depth_of comp) ns)) entries) f) → All (Inside ns) entries → AskedFacts ns comp fs entries
-asked_packed ns comp fs entries each shape levels deep up same inside = record {
-  asked = ap (λ (cs : List (List ℕ)). record_of cs) (sym (stored_by_fronts ns comp fs (map (λ e. e.at) entries) each levels up within deep
-      (λ v h. given_begins ns (depth_of comp) v entries fits each (recursion_from_All (Inside ns) entries inside) h ∙ sym (same v))));
-  stored = fronts_stored ns comp fs each shape levels up within deep fits;
-  within = within;
-  count = length-map (numbers_behind (product (drop (depth_of comp) ns)) fs) (index_at ns) ∙ length-behind (product (drop (depth_of comp) ns)) fs;
-}
-  where
-    record_of : List (List ℕ) → StoredTensor
-    record_of cs = record { extents = ns; compressed = comp; coords = cs }
+-- fronts that come from numbers of indices
+module _ (shape : Shape) (compressed : List Bool) (depth size : ℕ) (fs numbers : List ℕ) (lawful : IsShape shape) (order : shape.order ≤ length compressed) (deep : depth ≡ depth_of (take shape.order compressed))
+    (some : 0 < depth) (behind : size ≡ product (drop depth (dims shape))) (up : IsStrictlyIncreasing fs) (fronts : (f : ℕ) → contains fs f ≡ contains (map (λ n. n / size) numbers) f) where
+  below_deep : 0 < depth_of (take shape.order compressed)
+  below_deep = subst (λ (k : ℕ). 0 < k) deep some
 
-    fits : depth_of comp ≤ length ns
-    fits = omega (arith, (depth_is comp).within, levels)
+  fits : depth_of (take shape.order compressed) ≤ length (dims shape)
+  fits = omega (arith, (depth_is (take shape.order compressed)).within, levels_match shape compressed lawful order)
 
-    within : All (λ f. f < product (take (depth_of comp) ns)) fs
-    within = fronts_within ns (depth_of comp) entries fs (product-drop-positive ns (depth_of comp) each) same
+  behind_last : size ≡ product (drop (depth_of (take shape.order compressed)) (dims shape))
+  behind_last = behind ∙ ap (λ (k : ℕ). product (drop k (dims shape))) deep
+
+  pub front_facts : All (λ n. n < product (dims shape)) numbers → FrontFacts (dims shape) (take shape.order compressed) fs
+  front_facts below = record {
+    stored = fronts_stored (dims shape) (take shape.order compressed) fs (shape_facts shape lawful).each (subst (λ (o : Option Shape). IsSome o) (sym lawful) refl) (levels_match shape compressed lawful order) up within below_deep fits;
+    within = within;
+    count = length-map (numbers_behind (product (drop (depth_of (take shape.order compressed)) (dims shape))) fs) (index_at (dims shape)) ∙ length-behind (product (drop (depth_of (take shape.order compressed)) (dims shape))) fs;
+  }
+    where
+      within : All (λ f. f < product (take (depth_of (take shape.order compressed)) (dims shape))) fs
+      within = fronts_below (dims shape) (depth_of (take shape.order compressed)) numbers fs (product-drop-positive (dims shape) (depth_of (take shape.order compressed)) (shape_facts shape lawful).each) below
+          (λ f. fronts f ∙ ap (λ (s : ℕ). contains (map (λ n. n / s) numbers) f) behind_last)
+
+  pub fronts_asked : (entries : List Given) → FrontFacts (dims shape) (take shape.order compressed) fs → AreGiven (dims shape) entries numbers → All (Inside (dims shape)) entries
+      → levels_with (dims shape) (take shape.order compressed) fs ≡ levels_asked (dims shape) (take shape.order compressed) entries
+  fronts_asked entries facts given inside =
+      ap (λ (cs : List (List ℕ)). record_of cs) (sym (stored_by_fronts (dims shape) (take shape.order compressed) fs (map (λ e. e.at) entries) (shape_facts shape lawful).each (levels_match shape compressed lawful order) up facts.within below_deep
+      (λ v h. given_begins (dims shape) (depth_of (take shape.order compressed)) v entries fits (shape_facts shape lawful).each (recursion_from_All (Inside (dims shape)) entries inside) h
+      ∙ ap (λ (s : ℕ). contains (fronts_given (dims shape) s entries) v) (sym behind_last)
+      ∙ sym (fronts v ∙ contains_map (λ n. n / size) numbers (numbers_given (dims shape) entries) given v))))
+    where
+      record_of : List (List ℕ) → StoredTensor
+      record_of cs = record { extents = dims shape; compressed = take shape.order compressed; coords = cs }
+
+-- how many positions are behind so many fronts
+pub front_count : (ns : List ℕ) (comp : List Bool) (depth size : ℕ) (fs : List ℕ) → FrontFacts ns comp fs → depth ≡ depth_of comp → size ≡ product (drop depth ns) → length (levels_with ns comp fs).coords ≡ length fs * size
+front_count ns comp depth size fs facts deep behind = facts.count ∙ ap (λ (k : ℕ). length fs * k) (sym (behind ∙ ap (λ (k : ℕ). product (drop k ns)) deep))
+
+-- the levels that entries with these numbers ask for
+pub levels_given : (l : StoredTensor) (o : Option StoredTensor) (ns : List ℕ) (comp : List Bool) (numbers : List ℕ) (entries : List Given) → StoreGiven o ns comp numbers → o ≡ Some l → AreGiven ns entries numbers → All (Inside ns) entries
+    → (l ≡ levels_asked ns comp entries) × IsStored l × (length l.coords ≤ 1048576)
+levels_given l o ns comp numbers entries h is given inside =
+    let a = subst (λ (o : Option StoredTensor). StoreGiven o ns comp numbers) is h entries given inside in
+    (a.0, subst IsStored (sym a.0) a.1, subst (λ (t : StoredTensor). length t.coords ≤ 1048576) (sym a.0) a.2)
 
 -- what is packed where no entry is wrong
 pub packs : (ns : List ℕ) (comp : List Bool) (entries : List Given) (t : StoredTensor) (values : List ℕ) → None ≡ first_offence ns entries → t ≡ levels_asked ns comp entries
@@ -206,14 +237,14 @@ over_is m k s pos = elim (cases_lt (m / s) k) [
         omega (arith, div-add-mod' m s)
 
 -- the parts of the levels with these fronts
-pub cut_of : (ns : List ℕ) (comp : List Bool) (d s : ℕ) (fs : List ℕ) (level : List (List ℕ)) (entries : List Given) → AskedFacts ns comp fs entries → d ≡ depth_of comp → s ≡ product (drop d ns)
+pub cut_of : (ns : List ℕ) (comp : List Bool) (d s : ℕ) (fs : List ℕ) (level : List (List ℕ)) → FrontFacts ns comp fs → d ≡ depth_of comp → s ≡ product (drop d ns)
     → IsStrictlyIncreasing fs → length fs * s ≤ 1048576 → level ≡ fs ∷ [] → IsCut ns comp d s level
-cut_of ns comp d s fs level entries facts depth size up few is = subst (λ (l : List (List ℕ)). IsCut ns comp d s l) (sym is) (record {
+cut_of ns comp d s fs level facts depth size up few is = subst (λ (l : List (List ℕ)). IsCut ns comp d s l) (sym is) (record {
   depth = depth;
   size = size;
   root = refl;
   ascending = up;
   within = subst (λ (k : ℕ). All (λ f. f < product (take k ns)) fs) (sym depth) facts.within;
   stored = facts.stored;
-  few = subst (λ (n : ℕ). n ≤ 1048576) (sym (facts.count ∙ ap (λ (k : ℕ). length fs * product (drop k ns)) (sym depth) ∙ ap (λ (k : ℕ). length fs * k) (sym size))) few;
+  few = subst (λ (n : ℕ). n ≤ 1048576) (sym (front_count ns comp d s fs facts depth size)) few;
 })

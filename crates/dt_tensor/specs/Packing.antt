@@ -1,5 +1,5 @@
 -- The tensor that entries give, or the first thing that is wrong with them.
-use Rattle.std.specs.Prelude.{◌≡◌, ℕ, ◌+◌, ◌/◌, ◌<◌, ◌≤◌, List, length, take, map, find, Bool, is_none, is_some, nat_lt, Option, Some, None, option_map, unwrap_or, slice_get, Result, Ok, Err, if◌then◌else◌}
+use Rattle.std.specs.Prelude.{◌≡◌, ℕ, ◌+◌, ◌/◌, ◌<◌, ◌≤◌, List, All, IsSome, length, take, map, find, Bool, is_none, is_some, nat_lt, Option, Some, None, option_map, unwrap_or, slice_get, Result, Ok, Err, if◌then◌else◌}
 use Rattle.std.specs.List.{filter_map, list_any}
 use Rattle.std.specs.Option.{option_and_then}
 use Rattle.std.specs.Str.{bytes_eq}
@@ -7,6 +7,7 @@ use Rattle.dt_base.specs.Ranges.{below, assignments}
 use Rattle.dt_base.specs.Rows.{row_major}
 use Rattle.dt_model.specs.Positions.{StoredTensor, IsStored, stored_coords}
 use Rattle.dt_model.specs.WholeTensor.{WholeTensor}
+use Rattle.dt_runs.specs.Sets.{contains}
 use Rattle.dt_tensor.specs.Packed.{Packed}
 use Rattle.dt_tensor.specs.declared.entry.Given.{Given}
 use Rattle.dt_tensor.specs.declared.packing.PackEnd.{PackEnd}
@@ -20,9 +21,17 @@ given_at entries c = unwrap_or (option_map (λ e. e.value) (find (λ e. bytes_eq
 abbrev pub given_whole : List ℕ → List Given → WholeTensor
 given_whole ns entries = record { extents = ns; values = map (given_at entries) (assignments ns) }
 
--- the row-major numbers of the fronts of the entries that lie in the shape, where so many indices are behind each front
+-- the row-major numbers of the entries that lie in the shape
+abbrev pub numbers_given : List ℕ → List Given → List ℕ
+numbers_given ns entries = filter_map (λ e. row_major ns e.at) entries
+
+-- those of their fronts, where so many indices are behind each front
 abbrev pub fronts_given : List ℕ → ℕ → List Given → List ℕ
-fronts_given ns size entries = filter_map (λ e. option_map (λ n. n / size) (row_major ns e.at)) entries
+fronts_given ns size entries = map (λ n. n / size) (numbers_given ns entries)
+
+-- the numbers are those of the entries
+abbrev pub AreGiven : List ℕ → List Given → List ℕ → Type 0
+AreGiven ns entries numbers = (n : ℕ) → contains numbers n ≡ contains (numbers_given ns entries) n
 
 -- what these levels store where these entries are given
 abbrev pub levels_asked : List ℕ → List Bool → List Given → StoredTensor
@@ -32,6 +41,10 @@ levels_asked ns compressed entries = record { extents = ns; compressed = compres
 abbrev pub AreLevels : Option StoredTensor → StoredTensor → Type 0
 AreLevels (Some levels) asked = (levels ≡ asked) × IsStored asked × (length asked.coords ≤ 1048576)
 AreLevels None asked = 1048576 < length asked.coords
+
+-- the levels store what is asked for by any entries in the shape that have these numbers
+abbrev pub StoreGiven : Option StoredTensor → List ℕ → List Bool → List ℕ → Type 0
+StoreGiven levels ns compressed numbers = (entries : List Given) → AreGiven ns entries numbers → All (λ e. IsSome (row_major ns e.at)) entries → AreLevels levels (levels_asked ns compressed entries)
 
 -- what is wrong with an entry, from 1: it lies out of the shape, or one before it has its coordinates
 abbrev pub offence : List ℕ → List Given → ℕ → Option PackEnd

@@ -1,4 +1,5 @@
-//! Tensors as they are stored: the stored coordinates in order, and one number for each.
+//! In: entries, or the numbers of a dense tensor. Out: a stored tensor, or the first offence, by `pack`; and where each
+//! word lies, by `Tensors` as a `Locator`.
 #![tactic(auto)]
 
 mod dense;

@@ -1,8 +1,8 @@
 //! Where the words of a tensor lie of whose levels some are compressed.
 
-ghost use Rattle.std.specs.Prelude.{◌≡◌, ◌-◌, ◌≤◌, ◌<◌, ◌&&◌, length, take, drop, count_by, nat_le, nat_lt, true, find, slice_index};
+ghost use Rattle.std.specs.Prelude.{◌≡◌, ◌-◌, ◌≤◌, ◌<◌, ◌&&◌, length, take, drop, count_by, nat_le, nat_lt, true, find, slice_index, Some, IfSome};
 ghost use Rattle.dt_base.specs.Rows.{product, row_major};
-ghost use Rattle.dt_level.specs.Levels.{children_of};
+ghost use Rattle.dt_level.specs.Levels.{children_of, find_child};
 ghost use Rattle.dt_model.specs.Positions.{IsStored};
 ghost use Rattle.dt_model.specs.Shape.{are_extents, dims, IsShape};
 ghost use Rattle.dt_tensor.specs.Packed.{depth_of, levels_with, IsCut};
@@ -65,12 +65,13 @@ impl PackedLevels {
         }
     }
 
-    /// The position of the index with this row-major number, and none where it is not stored.
-    pub(crate) fn position_of(&self, number: u32) -> Option<u32>
+    /// The position of the index with this row-major number, and none where it is not stored. The front of the position
+    /// `near` and the one before it are tried first.
+    pub(crate) fn position_of(&self, near: Option<u32>, number: u32) -> Option<u32>
         requires { number < product self.now.extents }
         ensures { result ≡ place_in self.now (index_at self.now.extents number) }
     {
-        match self.fronts.find(0, number / self.size) {
+        match front_from(&self.fronts, near, self.size, number / self.size) {
             None => None,
             Some(front) => Some(front * self.size + number % self.size),
         }
@@ -90,9 +91,16 @@ impl PackedLevels {
     pub fn place(&self, c: &[u32]) -> Option<u32>
         ensures { result ≡ place_in self.now c.now }
     {
+        self.place_near(None, c)
+    }
+
+    /// The same, where the front of the position `near` and the one before it are tried first.
+    pub(crate) fn place_near(&self, near: Option<u32>, c: &[u32]) -> Option<u32>
+        ensures { result ≡ place_in self.now c.now }
+    {
         match self.shape.index(c) {
             None => None,
-            Some(number) => self.position_of(number),
+            Some(number) => self.position_of(near, number),
         }
     }
 
@@ -248,6 +256,45 @@ fn row_number(extents: &[u32], c: &[u32]) -> Option<u32>
     ensures { result ≡ row_major extents.now c.now }
 {
     shape_of(extents).index(c)
+}
+
+/// The number of a stored front. So many indices are behind each. Where a position is given, its front and the one before it
+/// are tried first.
+fn front_from(fronts: &Compressed, near: Option<u32>, size: u32, front: u32) -> Option<u32>
+    requires root { length fronts.now ≡ 1 }
+    requires some { 0 < size }
+    ensures { result ≡ find_child fronts.now 0 front }
+{
+    match near {
+        None => fronts.find(0, front),
+        Some(pos) => front_near(fronts, pos / size, front),
+    }
+}
+
+/// The same where the child `k` and the one before it are tried first.
+fn front_near(fronts: &Compressed, k: u32, front: u32) -> Option<u32>
+    requires { length fronts.now ≡ 1 }
+    ensures { result ≡ find_child fronts.now 0 front }
+{
+    if let Some(number) = child_at(fronts, k, front) {
+        return Some(number);
+    }
+    if let Some(number) = child_at(fronts, k.saturating_sub(1), front) {
+        return Some(number);
+    }
+    fronts.find(0, front)
+}
+
+/// The number of the child `k`, if it is this front.
+fn child_at(fronts: &Compressed, k: u32, front: u32) -> Option<u32>
+    requires { length fronts.now ≡ 1 }
+    ensures { IfSome result (λ n. find_child fronts.now 0 front ≡ Some n) }
+{
+    if k >= fronts.children(0) {
+        return None;
+    }
+    let (x, number) = fronts.child(0, k);
+    if x == front { Some(number) } else { None }
 }
 
 /// The least front that is stored of those numbered from `first` up to `end`.

@@ -7,7 +7,7 @@ ghost use Rattle.dt_model.specs.Positions.{IsStored};
 ghost use Rattle.dt_model.specs.Shape.{dims, IsShape};
 ghost use Rattle.dt_runs.specs.Sets.{contains};
 ghost use Rattle.dt_tensor.specs.Packed.{depth_of, whole_of};
-ghost use Rattle.dt_tensor.specs.Packing.{given_at, given_whole, first_offence, fronts_given, levels_asked, pack_of, AreLevels, IsPack};
+ghost use Rattle.dt_tensor.specs.Packing.{given_at, given_whole, first_offence, pack_of, AreGiven, StoreGiven, IsPack};
 
 use crate::dense::DenseLevels;
 use crate::entry::{Entries, Given};
@@ -48,36 +48,73 @@ pub fn pack(
     ensures packed { IsPack result (pack_of (dims shape) (take shape.order compressed) entries.now) }
     ensures whole { IfOk result (λ t. whole_of t ≡ given_whole (dims shape) entries.now) }
 {
-    match offence_in(alloc, &shape, entries.as_slice()) {
+    let list = entries.as_slice();
+    let numbers = match numbers_of(alloc, &shape, list) {
+        Err(_) => return Err(PackEnd::NoMemory),
+        Ok(numbers) => numbers,
+    };
+    match offence_in(alloc, &shape, numbers.as_slice(), list) {
         Err(_) => return Err(PackEnd::NoMemory),
         Ok(Some(end)) => return Err(end),
         Ok(None) => {}
     }
-    match levels_for(alloc, shape, compressed, entries.as_slice()) {
+    match levels_for(alloc, shape, compressed, numbers) {
         Err(_) => Err(PackEnd::NoMemory),
         Ok(None) => Err(PackEnd::TooManyStored),
-        Ok(Some(levels)) => match given_values(alloc, &levels, entries.as_slice()) {
+        Ok(Some(levels)) => match given_values(alloc, &levels, list) {
             Err(_) => Err(PackEnd::NoMemory),
             Ok(values) => Ok(Tensor::with_levels(levels, values)),
         },
     }
 }
 
+/// The row-major numbers of the entries that lie in the shape, each once, ascending.
+fn numbers_of(alloc: Global, shape: &Shape, entries: &[Given]) -> Result<Vec<u32>, NoMemory>
+    requires { IsShape shape.now }
+    ensures ascending { IfOk result (λ v. IsStrictlyIncreasing v.items) }
+    ensures given { IfOk result (λ v. AreGiven (dims shape.now) entries.now v.items) }
+{
+    let mut numbers = Vec::with_capacity(alloc, entries.len())?;
+    for entry in entries {
+        push_some(&mut numbers, shape.index(entry.at.as_slice()))?;
+    }
+    Ok(in_order(numbers))
+}
+
+/// Puts a number at the end, if there is one.
+fn push_some(numbers: &mut Vec<u32>, number: Option<u32>) -> Result<(), NoMemory>
+    ensures { OnOk result (numbers.new.items ≡ numbers.old.items ++ option_to_list number) }
+{
+    match number {
+        None => Ok(()),
+        Some(number) => {
+            numbers.push(number)?;
+            Ok(())
+        }
+    }
+}
+
 /// The first thing that is wrong with an entry. A mark for each number that is given tells repeats.
-fn offence_in(alloc: Global, shape: &Shape, entries: &[Given]) -> Result<Option<PackEnd>, NoMemory>
+fn offence_in(
+    alloc: Global,
+    shape: &Shape,
+    numbers: &[u32],
+    entries: &[Given],
+) -> Result<Option<PackEnd>, NoMemory>
     requires shape { IsShape shape.now }
     requires few { length entries.now < 2 ^ 32 - 1 }
+    requires ascending { IsStrictlyIncreasing numbers.now }
+    requires given { AreGiven (dims shape.now) entries.now numbers.now }
     ensures offence { IfOk result (λ end. end ≡ first_offence (dims shape.now) entries.now) }
     ensures inside { IfOk result (λ end. end ≡ None → All (λ e. IsSome (row_major (dims shape.now) e.at)) entries.now) }
 {
-    let numbers = fronts_of(alloc, shape, 1, entries)?;
     let mut seen = vec![in alloc; false; numbers.len()]?;
     let mut near = 0;
     for (i, entry) in entries.iter().enumerate() {
         match shape.index(entry.at.as_slice()) {
             None => return Ok(Some(PackEnd::OutOfShape(i as u32 + 1))),
             Some(number) => {
-                let place = place_of(numbers.as_slice(), near, number);
+                let place = place_of(numbers, near, number);
                 if seen.as_slice()[place] {
                     return Ok(Some(PackEnd::Repeated(i as u32 + 1)));
                 }
@@ -89,20 +126,21 @@ fn offence_in(alloc: Global, shape: &Shape, entries: &[Given]) -> Result<Option<
     Ok(None)
 }
 
-/// The levels that store these entries, and none where they would have too many positions.
+/// The levels that store the entries with these numbers, and none where they would have too many positions.
 fn levels_for(
     alloc: Global,
     shape: Shape,
     compressed: [bool; 4],
-    entries: &[Given],
+    numbers: Vec<u32>,
 ) -> Result<Option<TensorLevels>, NoMemory>
     requires shape { IsShape shape }
-    requires inside { All (λ e. IsSome (row_major (dims shape) e.at)) entries.now }
-    ensures { IfOk result (λ l. AreLevels l (levels_asked (dims shape) (take shape.order compressed) entries.now)) }
+    requires ascending { IsStrictlyIncreasing numbers.items }
+    requires within { All (λ n. n < product (dims shape)) numbers.items }
+    ensures { IfOk result (λ l. StoreGiven l (dims shape) (take shape.order compressed) numbers.items) }
 {
     let depth = depth_of(&compressed[..shape.order as usize]);
     if depth > 0 {
-        return front_levels(alloc, shape, compressed, depth, entries);
+        return front_levels(alloc, shape, compressed, depth, numbers);
     }
     if shape.count() > MOST_STORED {
         return Ok(None);
@@ -116,16 +154,17 @@ fn front_levels(
     shape: Shape,
     compressed: [bool; 4],
     depth: usize,
-    entries: &[Given],
+    numbers: Vec<u32>,
 ) -> Result<Option<TensorLevels>, NoMemory>
     requires shape { IsShape shape }
+    requires ascending { IsStrictlyIncreasing numbers.items }
+    requires within { All (λ n. n < product (dims shape)) numbers.items }
     requires depth { depth ≡ depth_of (take shape.order compressed) }
     requires deep { 0 < depth }
-    requires inside { All (λ e. IsSome (row_major (dims shape) e.at)) entries.now }
-    ensures { IfOk result (λ l. AreLevels l (levels_asked (dims shape) (take shape.order compressed) entries.now)) }
+    ensures { IfOk result (λ l. StoreGiven l (dims shape) (take shape.order compressed) numbers.items) }
 {
     let size = size_behind(&shape, depth);
-    let fronts = fronts_of(alloc, &shape, size, entries)?;
+    let fronts = fronts_of(alloc, numbers, size)?;
     if is_over(fronts.as_slice(), size) {
         return Ok(None);
     }
@@ -151,37 +190,21 @@ fn is_over(fronts: &[u32], size: u32) -> bool
     fronts.len() > (MOST_STORED / size) as usize
 }
 
-/// The row-major numbers of the fronts of the entries, each once, ascending. So many indices are behind each front.
-fn fronts_of(
-    alloc: Global,
-    shape: &Shape,
-    size: u32,
-    entries: &[Given],
-) -> Result<Vec<u32>, NoMemory>
-    requires shape { IsShape shape.now }
+/// The fronts of ascending numbers, each once, ascending. So many indices are behind each front.
+fn fronts_of(alloc: Global, numbers: Vec<u32>, size: u32) -> Result<Vec<u32>, NoMemory>
     requires some { 0 < size }
+    requires numbers { IsStrictlyIncreasing numbers.items }
     ensures ascending { IfOk result (λ v. IsStrictlyIncreasing v.items) }
-    ensures given { IfOk result (λ v. (f : ℕ) → contains v.items f ≡ contains (fronts_given (dims shape.now) size entries.now) f) }
+    ensures fronts { IfOk result (λ v. (f : ℕ) → contains v.items f ≡ contains (map (λ n. n / size) numbers.items) f) }
 {
+    if size == 1 {
+        return Ok(numbers);
+    }
     let mut fronts = Vec::new(alloc);
-    for entry in entries {
-        push_front(&mut fronts, shape.index(entry.at.as_slice()), size)?;
+    for number in numbers.as_slice() {
+        fronts.push(*number / size)?;
     }
     Ok(in_order(fronts))
-}
-
-/// Puts the front of an index at the end, if there is one.
-fn push_front(fronts: &mut Vec<u32>, number: Option<u32>, size: u32) -> Result<(), NoMemory>
-    requires { 0 < size }
-    ensures { OnOk result (fronts.new.items ≡ fronts.old.items ++ option_to_list (option_map (λ n. n / size) number)) }
-{
-    match number {
-        None => Ok(()),
-        Some(number) => {
-            fronts.push(number / size)?;
-            Ok(())
-        }
-    }
 }
 
 /// The numbers in order, each once.
@@ -226,12 +249,16 @@ fn given_values(
     ensures { IfOk result (λ v. v.items ≡ map (given_at entries.now) levels.now.coords) }
 {
     let mut values = vec![in alloc; 0u64; levels.count() as usize]?;
+    let mut near = 0;
     // From the last entry on, so that the first of those that repeat stays.
     for i in (0..entries.len()).rev() {
         let entry = &entries[i];
-        match levels.place(entry.at.as_slice()) {
+        match levels.place_near(Some(near), entry.at.as_slice()) {
             None => {}
-            Some(pos) => values.as_mut_slice()[pos as usize] = entry.value,
+            Some(pos) => {
+                values.as_mut_slice()[pos as usize] = entry.value;
+                near = pos;
+            }
         }
     }
     Ok(values)

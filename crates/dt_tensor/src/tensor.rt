@@ -135,7 +135,7 @@ impl Tensor {
     }
 
     /// Where the words lie.
-    pub(crate) fn levels(&self) -> &TensorLevels
+    pub fn levels(&self) -> &TensorLevels
         ensures { result.now ≡ stored_of self.now }
     {
         &self.levels

@@ -73,7 +73,7 @@ impl TensorLevels {
     {
         match &self.kind {
             LevelKind::Dense(levels) => levels.position_of(number),
-            LevelKind::Packed(levels) => levels.position_of(number),
+            LevelKind::Packed(levels) => levels.position_of(None, number),
         }
     }
 
@@ -81,9 +81,16 @@ impl TensorLevels {
     pub fn place(&self, c: &[u32]) -> Option<u32>
         ensures { result ≡ place_in self.now c.now }
     {
+        self.place_near(None, c)
+    }
+
+    /// The same, where the position `near` tells what is tried first.
+    pub(crate) fn place_near(&self, near: Option<u32>, c: &[u32]) -> Option<u32>
+        ensures { result ≡ place_in self.now c.now }
+    {
         match &self.kind {
             LevelKind::Dense(levels) => levels.place(c),
-            LevelKind::Packed(levels) => levels.place(c),
+            LevelKind::Packed(levels) => levels.place_near(near, c),
         }
     }
 

@@ -1,5 +1,6 @@
-//! Tests that cross crates: the homes of tensors, and from a job's text to the visits of its schedules, to the words that its
-//! nodes need, and to the nodes that these come from.
+//! Tests that cross crates: jobs and their first causes; the homes of tensors; from a job's text to the visits of its
+//! schedules, to the words that its nodes need, and to the nodes that these come from; the nests of the tutorial and of the
+//! examples as they are printed.
 #![tactic(auto)]
 
 #[cfg(test)]
@@ -9,7 +10,13 @@ mod copy_tests;
 #[cfg(test)]
 mod home_tests;
 #[cfg(test)]
+mod job_tests;
+#[cfg(test)]
 mod need_tests;
+#[cfg(test)]
+mod nest_tests;
+#[cfg(test)]
+mod schedule_tests;
 #[cfg(test)]
 mod statements;
 #[cfg(test)]

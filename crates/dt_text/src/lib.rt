@@ -1,4 +1,5 @@
-//! Lines, tokens, numbers and names of a text, and which bytes a line may have.
+//! In: bytes. Out: lines, tokens, parts, numbers and names, each by its definition: `next_line`, `tokens`, `parts_at`,
+//! `number`, `all_numbers`, `is_name`.
 #![tactic(auto)]
 
 mod line;

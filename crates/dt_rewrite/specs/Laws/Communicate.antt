@@ -16,7 +16,8 @@ use Rattle.dt_nest.specs.Commands.{Keeps}
 use Rattle.dt_nest.proofs.Marked.{marked_lawful, marked_sum, marked_accesses, marked_fits}
 use Rattle.dt_rewrite.specs.declared.communicates.Communicate.{Communicate}
 use Rattle.dt_cuts.proofs.Passing.{all_pass, test_holds, none_with}
-use Rattle.dt_rewrite.specs.Communicates.{is_moved, communicated_tensor, communicate_tests, communicate_cause, communicate_effect, moves_at, tensor_name, communicate_rule}
+use Rattle.dt_nest.specs.PartNames.{tensor_name}
+use Rattle.dt_rewrite.specs.Communicates.{is_moved, communicated_tensor, communicate_tests, communicate_cause, communicate_effect, moves_at, communicate_rule}
 use Rattle.dt_cuts.proofs.Stands.{no_walk}
 
 -- a loop outside every precompute node is a communicate loop, if it is none of the distributed ones but the last

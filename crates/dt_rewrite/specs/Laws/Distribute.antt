@@ -16,7 +16,7 @@ use Rattle.dt_nest.specs.Questions.{is_fixed, misplaced}
 use Rattle.dt_rewrite.specs.declared.distributes.Distribute.{Distribute}
 use Rattle.dt_rewrite.specs.Distributes.{front_of, distribute_tests, wrong_extent, distribute_cause, distribute_effect, distribute_rule}
 use Rattle.dt_cuts.proofs.Passing.{all_pass, test_holds, none_with, nothing_made}
-use Rattle.dt_cuts.specs.Causes.{name_of}
+use Rattle.dt_nest.specs.PartNames.{name_of}
 use Rattle.dt_cuts.proofs.Stands.{ArePlain, all_plain}
 use Rattle.dt_nest.proofs.Truth.{all_and}
 

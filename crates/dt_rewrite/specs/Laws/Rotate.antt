@@ -22,7 +22,8 @@ use Rattle.dt_cuts.specs.Cutting.{is_head, BeginsWith, HoldsAt, NameLoops, IsCut
 use Rattle.dt_cuts.proofs.CutKeeps.{cut_keeps}
 use Rattle.dt_cuts.proofs.CutOwes.{cut_owes}
 use Rattle.dt_rewrite.specs.declared.rotates.Rotate.{Rotate}
-use Rattle.dt_cuts.specs.Causes.{name_of, taken_name}
+use Rattle.dt_nest.specs.PartNames.{name_of}
+use Rattle.dt_cuts.specs.Causes.{taken_name}
 use Rattle.dt_rewrite.specs.Rotates.{rotate_tests, rotate_cause, rotate_cut, rotate_effect, rotate_rule}
 use Rattle.dt_cuts.proofs.Passing.{all_pass, none_with, loops_known, names_differ, FreeLoops, loops_free, heads_free}
 use Rattle.dt_cuts.proofs.Stands.{loop_below, all_plain, holds_at_both, holds_at_outer, outer_differ, chain_alone, holds_at_chain}

@@ -9,5 +9,5 @@ use Rattle.dt_bounds.proofs.accesses.push_factors.Goals as goal
 
 pub push_factor-requires-clause-valued : goal.push_factor-requires-clause-valued
 push_factor-requires-clause-valued g c =
-    subst (λ (f : Factor). AreValuedAt c.args.visits.now c.args.lane (factor_accesses f)) (sym c.factor-item.is)
-    (all_part (λ a. AllByRecursion (HasValueAt c.args.visits.now c.args.lane) a.vars) factor_accesses c.args.factors.now c.loop-factor.factor-index c.factor-item.result c.requires.valued c.loop-factor-test.true)
+    subst (λ (f : Factor). AreValuedAt c.args.visits.now c.args.point.now.lane (factor_accesses f)) (sym c.factor-item.is)
+    (all_part (λ a. AllByRecursion (HasValueAt c.args.visits.now c.args.point.now.lane) a.vars) factor_accesses c.args.factors.now c.loop-factor.factor-index c.factor-item.result c.requires.valued c.loop-factor-test.true)

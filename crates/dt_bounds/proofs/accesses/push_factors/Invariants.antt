@@ -8,4 +8,4 @@ use Rattle.dt_bounds.proofs.accesses.push_factors.Given as goal
 
 abbrev pub invariant-loop-factor : goal.invariant-loop-factor
 invariant-loop-factor g l =
-    AddsReached (tensor_at (g.L.Locator.tensors l.target.loc.now) l.target.tensor) l.target.tensor (env_at l.visits l.lane) (flat_map factor_accesses (take l.factor-index l.factors)) l.fn.found.positions.items l.found.positions.items
+    AddsReached (tensor_at (g.L.Locator.tensors l.target.loc.now) l.target.tensor) l.target.tensor (env_at l.visits l.point.lane) (flat_map factor_accesses (take l.factor-index l.factors)) l.fn.found.positions.items l.found.positions.items

@@ -12,10 +12,10 @@ loop-x-preserved g c =
     let r = c.args.visits.now in
     let accesses = accesses_in c.args.accesses.now.lhs.now c.args.accesses.now.terms.now in
     adds_then (length t.coords) (is_some_lane_reached r t c.args.target.now.tensor accesses c.loop-x.x) (is_lane_reached r t c.args.target.now.tensor accesses c.loop-x.x) (is_some_lane_reached r t c.args.target.now.tensor accesses (c.loop-x.x + 1))
-    c.args.found.now.positions.items c.loop-x.found.positions.items c.push_lane.new.found.positions.items c.loop-x.invariant c.in_ok-push_lane.ensures (lane_more r t c.args.target.now.tensor accesses c.loop-x.x)
+    c.args.found.now.positions.items c.loop-x.found.positions.items c.push_lane.new.found.positions.items c.loop-x.invariant c.in_ok-push_lane.ensures.adds (lane_more r t c.args.target.now.tensor accesses c.loop-x.x)
 
-pub returns : goal.returns
-returns g c =
+pub returns-clause-adds : goal.returns-clause-adds
+returns-clause-adds g c =
     let t : StoredTensor = tensor_at (g.L.Locator.tensors c.args.target.now.loc.now) c.args.target.now.tensor in
     let r = c.args.visits.now in
     let accesses = accesses_in c.args.accesses.now.lhs.now c.args.accesses.now.terms.now in

@@ -10,5 +10,5 @@ use Rattle.dt_bounds.proofs.accesses.push_terms.Goals as goal
 
 pub push_factors-requires-clause-valued : goal.push_factors-requires-clause-valued
 push_factors-requires-clause-valued g c =
-    subst (λ (fs : List Factor). AreValuedAt c.args.visits.now c.args.lane (flat_map factor_accesses fs)) (sym (c.as_slice.ensures ∙ ap (λ (t : Term). t.factors) c.term-item.is))
-    (all_part (λ a. AllByRecursion (HasValueAt c.args.visits.now c.args.lane) a.vars) (λ (t : Term). flat_map factor_accesses t.factors) c.args.terms.now c.loop-term.term-index c.term-item.result c.requires.valued c.loop-term-test.true)
+    subst (λ (fs : List Factor). AreValuedAt c.args.visits.now c.args.point.now.lane (flat_map factor_accesses fs)) (sym (c.as_slice.ensures ∙ ap (λ (t : Term). t.factors) c.term-item.is))
+    (all_part (λ a. AllByRecursion (HasValueAt c.args.visits.now c.args.point.now.lane) a.vars) (λ (t : Term). flat_map factor_accesses t.factors) c.args.terms.now c.loop-term.term-index c.term-item.result c.requires.valued c.loop-term-test.true)

@@ -7,4 +7,4 @@ use Rattle.dt_bounds.proofs.accesses.push_terms.Given as goal
 
 abbrev pub invariant-loop-term : goal.invariant-loop-term
 invariant-loop-term g l =
-    AddsReached (tensor_at (g.L.Locator.tensors l.target.loc.now) l.target.tensor) l.target.tensor (env_at l.visits l.lane) (read_accesses (take l.term-index l.terms)) l.fn.found.positions.items l.found.positions.items
+    AddsReached (tensor_at (g.L.Locator.tensors l.target.loc.now) l.target.tensor) l.target.tensor (env_at l.visits l.point.lane) (read_accesses (take l.term-index l.terms)) l.fn.found.positions.items l.found.positions.items

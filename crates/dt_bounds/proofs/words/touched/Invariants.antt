@@ -9,6 +9,7 @@ use Rattle.dt_bounds.proofs.words.touched.Given as goal
 abbrev pub invariant-loop-found : goal.invariant-loop-found
 invariant-loop-found g l = record {
   same_sched : l.visits.sched ≡ l.sched;
+  room : length l.values ≡ length l.sched.names;
   same_tensors : l.visits.stored ≡ g.L.Locator.tensors l.loc;
   members : (x : ℕ) → (contains l.found.positions.items x || is_touched (world_of (g.L.Locator.tensors l.loc) l.sched) l.sched.derived (tensor_at (g.L.Locator.tensors l.loc) l.tensor) l.tensor l.visits.left x)
       ≡ is_touched (world_of (g.L.Locator.tensors l.loc) l.sched) l.sched.derived (tensor_at (g.L.Locator.tensors l.loc) l.tensor) l.tensor (visits_of (g.L.Locator.tensors l.loc) l.sched l.path) x;

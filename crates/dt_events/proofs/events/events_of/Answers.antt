@@ -24,5 +24,5 @@ returns-in-Err-clause-many c e =
     let g : ℕ → List (ℕ × ℕ) = events_from p in
     let is : c.loop-first.pairs.items ++ g n ≡ flat_map g (below (n + 1)) = ap (λ (l : List (ℕ × ℕ)). l ++ g n) c.loop-first.invariant.pairs ∙ one_more g n in
     let many : event_limit < length (flat_map g (below (n + 1))) = subst (λ (l : List (ℕ × ℕ)). event_limit < length l) is (c.in-Err.ensures.many (same_end c.in-Err.end TooManyEvents e)) in
-    let fewer = fewer_made g (n + 1) (length p.ops) (omega (arith, c.op_count-count.ensures, c.loop-first-test.true)) in
+    let fewer = fewer_made g (n + 1) (length p.ops) (omega (arith, c.op_count-count.ensures.count, c.loop-first-test.true)) in
     omega (arith, many, fewer)

@@ -28,7 +28,7 @@ is_nearest-is_event-requires-clause-met c =
     let a = c.args.first in
     let b = c.loop-second.second in
     let q : ℕ → Bool = λ x. nat_lt a x && conflict p a x in
-    let end : b < length p.ops = omega (arith, c.op_count-count.ensures, c.loop-second-test.true) in
+    let end : b < length p.ops = omega (arith, c.op_count-count.ensures.count, c.loop-second-test.true) in
     subst (λ (xs : List ℕ). All (λ x. x < length p.ops) xs) (sym (c.as_slice.ensures.value ∙ c.loop-second.invariant.met))
     (λ k d l. all_get (λ x. x < length p.ops) (filter q (below b)) k d (all_filter (λ x. x < length p.ops) q (below b) (all_map (λ x. x < b) (λ x. x < length p.ops) (λ x h. omega (arith, h, end)) (below b) (below_all b))) l)
 
@@ -55,7 +55,7 @@ returns-in-Err-clause-many c e =
     let more = pairs_more p a b old c.loop-second.pairs.items c.as_slice.result.now c.conflict-conflicts.result c.is_nearest-is_event.result
     c.loop-second.invariant.above c.loop-second.invariant.pairs (c.as_slice.ensures.value ∙ c.loop-second.invariant.met) c.conflict-conflicts.ensures c.is_nearest-is_event.ensures in
     let many : event_limit < length (old ++ map f (filter q (below (b + 1)))) = subst (λ (l : List (ℕ × ℕ)). event_limit < length l) more (c.in-Err.ensures.many e) in
-    let fewer = fewer_pass old f q (b + 1) (length p.ops) (omega (arith, c.op_count-count.ensures, c.loop-second-test.true)) in
+    let fewer = fewer_pass old f q (b + 1) (length p.ops) (omega (arith, c.op_count-count.ensures.count, c.loop-second-test.true)) in
     omega (arith, many, fewer)
 
 pub loop-second-preserved : goal.loop-second-preserved

@@ -1,6 +1,6 @@
-use Rattle.std.proofs.Common.{◌≡◌, ℕ, List, length, ap, sym, subst, ◌∙◌, arith}
+use Rattle.std.proofs.Common.{◌≡◌, ℕ, true, List, length, ap, sym, subst, ◌∙◌, arith}
 use Rattle.std.proofs.lemmas.List.{length-map}
-use Rattle.dt_index.specs.Known.{shapes_of_known}
+use Rattle.dt_index.specs.Known.{is_dense_at, shapes_of_known}
 use Rattle.dt_model.specs.Stmts.{IsStmt}
 use Rattle.dt_nest.specs.Chain.{IsSchedulable, MeansStmt}
 use Rattle.dt_nest.proofs.Schedulable.{schedulable}
@@ -15,7 +15,7 @@ use Rattle.dt_job.proofs.stmt_line.read_stmt.Goals as goal
 
 -- there are as many shapes as names
 same_count : (tensors : Contents) → length (shapes_of_known (known_of tensors)) ≡ length (names_of tensors)
-same_count tensors = ap length (known_shapes tensors) ∙ length-map tensors (λ t. t.1.extents) ∙ sym (length-map tensors (λ t. t.0))
+same_count tensors = ap length (known_shapes tensors) ∙ length-map tensors (λ t. t.1.packed.extents) ∙ sym (length-map tensors (λ t. t.0))
 
 pub new-requires : goal.new-requires
 new-requires c =
@@ -40,4 +40,5 @@ open-requires-clause-lawful c =
       small = c.in_ok-stmt.ensures.small;
       unread = c.in_ok-stmt.ensures.unread;
     } in
-    subst (IsScheduled (grid_of c.args.draft.now.machine) tensors) (sym is) (record { stmt = stands; part = first_part (grid_of c.args.draft.now.machine) tensors c.in_ok-stmt.stmt c.in_ok-stmt.vars (subst M is c.in_ok-scheduled.ensures.means) stands c.declared-2.ensures.lawful.stored })
+    let left : is_dense_at (known_of tensors) c.in_ok-stmt.stmt.lhs.tensor ≡ true = subst (λ (ts : Contents). is_dense_at (known_of ts) c.in_ok-stmt.stmt.lhs.tensor ≡ true) c.declared.ensures.tensors c.in_ok-stmt.ensures.dense in
+    subst (IsScheduled (grid_of c.args.draft.now.machine) tensors) (sym is) (record { stmt = stands; part = first_part (grid_of c.args.draft.now.machine) tensors c.in_ok-stmt.stmt c.in_ok-stmt.vars (subst M is c.in_ok-scheduled.ensures.means) stands c.declared-2.ensures.lawful.stored left })

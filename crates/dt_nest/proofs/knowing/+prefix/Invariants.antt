@@ -2,4 +2,4 @@ use Rattle.std.proofs.Common.{length}
 use Rattle.dt_nest.proofs.knowing.+prefix.Given as goal
 
 abbrev pub decreases-prefix : goal.decreases-prefix
-decreases-prefix g l = length l.vars.now
+decreases-prefix l = length l.vars.now

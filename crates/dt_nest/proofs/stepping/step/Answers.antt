@@ -50,7 +50,7 @@ returns-then-hold-clause-steps g c =
     ∙ ap (λ (l : List ℕ). list_all (λ v. is_below (slice_index c.args.against.now.parts.now.extents v) (tabled c.refill.new.values v)) l) c.as_slice-in-Some-2.ensures.value
     ∙ table_holds (world_of (g.L.Locator.tensors c.args.against.now.loc.now) (seen c.args.against.now.parts.now)) c.args.against.now.parts.now.derived c.turn.new.slots c.refill.new.values c.args.wheels.now.guards.items (returns-then-hold-clause-table g c) in (
       ap (λ (ws : List Wheel). turned ws c.args.slots.now) (sym c.as_slice.ensures.value) ∙ c.turn.ensures.turned ∙ ap (λ (o : Option ℕ). if is_some o then Some c.turn.new.slots else None) c.in-Some.is,
-      sym h ∙ c.if-hold.true,
+      ap (λ (l : List ℕ). list_all (guard_inside (world_of (g.L.Locator.tensors c.args.against.now.loc.now) (seen c.args.against.now.parts.now)) (inside_in (world_of (g.L.Locator.tensors c.args.against.now.loc.now) (seen c.args.against.now.parts.now)) c.args.against.now.parts.now.derived [] c.turn.new.slots)) l) (sym c.requires.turn.guards) ∙ sym h ∙ c.if-hold.true,
     )
 
 pub returns-else-hold-clause-table : goal.returns-else-hold-clause-table
@@ -78,5 +78,5 @@ returns-else-hold-clause-steps g c =
     ∙ ap (λ (l : List ℕ). list_all (λ v. is_below (slice_index c.args.against.now.parts.now.extents v) (tabled c.refill.new.values v)) l) c.as_slice-in-Some-2.ensures.value
     ∙ table_holds (world_of (g.L.Locator.tensors c.args.against.now.loc.now) (seen c.args.against.now.parts.now)) c.args.against.now.parts.now.derived c.turn.new.slots c.refill.new.values c.args.wheels.now.guards.items (returns-else-hold-clause-table g c) in (
       ap (λ (ws : List Wheel). turned ws c.args.slots.now) (sym c.as_slice.ensures.value) ∙ c.turn.ensures.turned ∙ ap (λ (o : Option ℕ). if is_some o then Some c.turn.new.slots else None) c.in-Some.is,
-      sym h ∙ c.if-hold.false,
+      ap (λ (l : List ℕ). list_all (guard_inside (world_of (g.L.Locator.tensors c.args.against.now.loc.now) (seen c.args.against.now.parts.now)) (inside_in (world_of (g.L.Locator.tensors c.args.against.now.loc.now) (seen c.args.against.now.parts.now)) c.args.against.now.parts.now.derived [] c.turn.new.slots)) l) (sym c.requires.turn.guards) ∙ sym h ∙ c.if-hold.false,
     )

@@ -1,5 +1,6 @@
 use Rattle.std.proofs.Common.{◌∙◌, subst}
 use Rattle.dt_nest.specs.Schedule.{seen}
+use Rattle.dt_nest.specs.Tree.{tree_of}
 use Rattle.dt_nest.specs.Run.{run_tests}
 use Rattle.dt_nest.specs.Visited.{StepIs}
 use Rattle.dt_nest.proofs.StepFacts.{can_turn, step_left, step_passes, step_visits}
@@ -10,13 +11,13 @@ step-requires-clause-turn g c = can_turn (seen c.args.against.now.parts.now) c.a
 
 pub returns-in-Comes-clause-turns : goal.returns-in-Comes-clause-turns
 returns-in-Comes-clause-turns g c =
-    let s = subst (StepIs (run_tests (g.L.Locator.tensors c.args.against.now.loc.now) (seen c.args.against.now.parts.now)) c.args.wheels.now c.loop.slots c.step.new.slots) c.in-Comes.is c.step.ensures.steps in
+    let s = subst (StepIs (run_tests (g.L.Locator.tensors c.args.against.now.loc.now) (seen c.args.against.now.parts.now)) (tree_of c.args.against.now.parts.now.nest) c.args.wheels.now c.loop.slots c.step.new.slots) c.in-Comes.is c.step.ensures.steps in
     let m = step_visits (g.L.Locator.tensors c.args.against.now.loc.now) (seen c.args.against.now.parts.now) c.args.path.now c.loop.slots c.step.new.slots c.args.wheels.now c.requires.wheels c.loop.invariant.on s.0 s.1 in
     (c.loop.invariant.left ∙ m.0, m.1)
 
 pub loop-preserved : goal.loop-preserved
 loop-preserved g c =
-    let s = subst (StepIs (run_tests (g.L.Locator.tensors c.args.against.now.loc.now) (seen c.args.against.now.parts.now)) c.args.wheels.now c.loop.slots c.step.new.slots) c.in-Passes.is c.step.ensures.steps in
+    let s = subst (StepIs (run_tests (g.L.Locator.tensors c.args.against.now.loc.now) (seen c.args.against.now.parts.now)) (tree_of c.args.against.now.parts.now.nest) c.args.wheels.now c.loop.slots c.step.new.slots) c.in-Passes.is c.step.ensures.steps in
     record {
       on = step_passes (g.L.Locator.tensors c.args.against.now.loc.now) (seen c.args.against.now.parts.now) c.args.path.now c.loop.slots c.step.new.slots c.args.wheels.now c.requires.wheels c.loop.invariant.on c.step.ensures.room s.0 s.1;
       left = c.loop.invariant.left ∙ step_left (g.L.Locator.tensors c.args.against.now.loc.now) (seen c.args.against.now.parts.now) c.args.path.now c.loop.slots c.step.new.slots c.args.wheels.now c.requires.wheels c.loop.invariant.on s.0 s.1;

@@ -1,8 +1,7 @@
-use Rattle.std.proofs.Common.{◌≡◌, ℕ, ◌∷◌, [], ◌++◌, List, subst, ap, sym, ◌∙◌, arith}
+use Rattle.std.proofs.Common.{ℕ, ◌∷◌, [], ◌++◌, List, subst, ◌∙◌, arith}
 use Rattle.std.specs.Prelude.{◌-◌}
 use Rattle.std.proofs.lemmas.Result.{on_ok_weaker}
-use Rattle.dt_plan.specs.declared.ops.Op.{Op}
-use Rattle.dt_plan.specs.Brackets.{Outline, opened, closed, block}
+use Rattle.dt_plan.specs.Brackets.{opened, block}
 use Rattle.dt_plan.specs.Keeps.{Keeps}
 use Rattle.dt_plan.proofs.BlockSteps.{task_kept, inside_kept, keeps_more}
 use Rattle.dt_plan.proofs.brackets.+push_block.Goals as goal

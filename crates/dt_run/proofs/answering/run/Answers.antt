@@ -7,7 +7,7 @@ use Rattle.dt_model.specs.Value.{final_of}
 use Rattle.dt_place.specs.Machines.{dims_of}
 use Rattle.dt_tensor.specs.Packed.{stored_of}
 use Rattle.dt_job.specs.PartsOf.{ArePartsOf}
-use Rattle.dt_run.specs.Refusals.{line_end}
+use Rattle.dt_refusal.specs.Refusals.{line_end}
 use Rattle.dt_run.specs.Outcome.{ends_of, given_of, packed_with}
 use Rattle.dt_run.specs.Running.{AreOver, AreWorkless}
 use Rattle.dt_run.specs.TensorText.{dense_of}

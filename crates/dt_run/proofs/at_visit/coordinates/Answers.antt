@@ -6,6 +6,6 @@ use Rattle.dt_run.proofs.at_visit.coordinates.Goals as goal
 pub loop-i-preserved : goal.loop-i-preserved
 loop-i-preserved g c = record {
   room = omega (arith, length-set {A = ℕ}, c.loop-i.invariant.room);
-  values = coordinates_more (env_at c.args.visits.now c.args.lane) c.args.vars.now c.loop-i.coords c.loop-i.i c.value_at.result c.loop-i-test.true (omega (arith, c.requires.few, c.loop-i.invariant.room)) c.value_at.ensures.value c.loop-i.invariant.values;
-  inside = inside_more c.args.visits.now.sched.extents c.args.vars.now c.loop-i.coords c.loop-i.i c.value_at.result c.loop-i-test.true (omega (arith, c.requires.few, c.loop-i.invariant.room)) c.value_at.ensures.below c.loop-i.invariant.inside;
+  values = coordinates_more (env_at c.args.visits.now c.args.point.now.lane) c.args.vars.now c.loop-i.coords c.loop-i.i c.value_in.result c.loop-i-test.true (omega (arith, c.requires.vars.few, c.loop-i.invariant.room)) c.value_in.ensures.value c.loop-i.invariant.values;
+  inside = inside_more c.args.visits.now.sched.extents c.args.vars.now c.loop-i.coords c.loop-i.i c.value_in.result c.loop-i-test.true (omega (arith, c.requires.vars.few, c.loop-i.invariant.room)) c.value_in.ensures.below c.loop-i.invariant.inside;
 }

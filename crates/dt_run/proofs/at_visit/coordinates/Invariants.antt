@@ -7,6 +7,6 @@ use Rattle.dt_run.proofs.at_visit.coordinates.Given as goal
 abbrev pub invariant-loop-i : goal.invariant-loop-i
 invariant-loop-i g l = record {
   room : length l.coords ≡ 4;
-  values : take l.i l.coords ≡ map (env_at l.visits l.lane) (take l.i l.vars);
+  values : take l.i l.coords ≡ map (env_at l.visits l.point.lane) (take l.i l.vars);
   inside : IsSome (row_major (map (slice_index l.visits.sched.extents) (take l.i l.vars)) (take l.i l.coords));
 }

@@ -8,4 +8,4 @@ use Rattle.dt_run.proofs.at_visit.lanes_number.Goals as goal
 
 pub loop-x-preserved : goal.loop-x-preserved
 loop-x-preserved g c =
-    lanes_more (λ y. terms_of (entries_of c.args.tensors.now) (env_at c.args.visits.now (Some y)) c.args.terms.now) (λ y. is_among y (valid_of c.args.visits.now)) c.loop-x.x c.loop-x.sum c.lane_number-sum.result c.loop-x.invariant c.lane_number-sum.ensures
+    lanes_more (λ y. terms_of (entries_of c.args.tensors.now) (env_at c.args.visits.now (Some y)) c.args.terms.now) (λ y. is_among y (valid_of c.args.visits.now)) c.loop-x.x c.loop-x.sum c.lane_number-sum.result c.loop-x.invariant c.lane_number-sum.ensures.number

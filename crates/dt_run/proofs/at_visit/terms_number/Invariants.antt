@@ -5,4 +5,4 @@ use Rattle.dt_nest.specs.Point.{env_at}
 use Rattle.dt_run.proofs.at_visit.terms_number.Given as goal
 
 abbrev pub invariant-loop-term : goal.invariant-loop-term
-invariant-loop-term g l = l.sum ≡ terms_of (entries_of l.tensors) (env_at l.visits l.lane) (take l.term-index l.terms) % 2 ^ 64
+invariant-loop-term g l = l.sum ≡ terms_of (entries_of l.tensors) (env_at l.visits l.point.lane) (take l.term-index l.terms) % 2 ^ 64

@@ -3,7 +3,7 @@ use Rattle.std.specs.Prelude.{codes}
 use Rattle.std.proofs.lemmas.Result.{on_ok_weaker}
 use Rattle.dt_model.specs.Shape.{dims}
 use Rattle.dt_model.proofs.ShapeFacts.{shape_facts}
-use Rattle.dt_run.specs.Refusals.{line_end}
+use Rattle.dt_refusal.specs.Refusals.{line_end}
 use Rattle.dt_run.specs.TensorText.{cut_text, row_length, shape_text}
 use Rattle.dt_run.proofs.RowFacts.{row_positive, tensor_whole}
 use Rattle.dt_run.proofs.tensor_text.put_tensor.Goals as goal

@@ -14,6 +14,6 @@ returns-in-Leaf-clause-entries g c =
     let t : tree_of c.leaf.result.now ≡ leaf_tree (visit_of c.args.visits.now).leaf = on_visit (λ visit. tree_of c.leaf.result.now ≡ leaf_tree visit.leaf) c.args.visits.now.last c.leaf.ensures.leaf in
     let l : c.in-Leaf.lhs ≡ (visit_of c.args.visits.now).leaf.lhs = (let e = sym (ap tree_of c.in-Leaf.is) ∙ t in cc) in
     visit_effect c.args.visits.now (entries_of c.args.tensors.now.items) (entries_of c.add_number.new.tensors.items) c.in-Leaf.lhs c.visit_number-number.result l
-    (c.visit_number-number.ensures
+    (c.visit_number-number.ensures.number
     ∙ ap (λ (ts : List WholeTensor). visit_sum (world_of c.args.visits.now.stored c.args.visits.now.sched) c.args.visits.now.sched.derived (entries_of ts) (visit_of c.args.visits.now) % 2 ^ 64) c.as_slice-in-Leaf.ensures.value)
     c.add_number.ensures.entries

@@ -1,6 +1,7 @@
 use Rattle.std.proofs.Common.{◌+◌, arith}
 use Rattle.dt_schedule.specs.NamesOf.{name_in, names_of}
-use Rattle.dt_schedule.proofs.EachFacts.{each_end, each_fails, words_from, words_from-end, words_from-next}
+use Rattle.dt_text.proofs.TokenLists.{words_from, words_from-end, words_from-next}
+use Rattle.dt_schedule.proofs.EachFacts.{each_end, each_fails}
 use Rattle.dt_schedule.proofs.loop_names.read_names.Goals as goal
 
 pub returns-in-Err : goal.returns-in-Err

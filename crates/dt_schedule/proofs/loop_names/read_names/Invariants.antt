@@ -2,7 +2,7 @@ use Rattle.std.proofs.Common.{◌≡◌, map}
 use Rattle.dt_model.proofs.Fronts.{with_front}
 use Rattle.dt_text.specs.Spans.{token_in}
 use Rattle.dt_schedule.specs.NamesOf.{each, name_in}
-use Rattle.dt_schedule.proofs.EachFacts.{words_from}
+use Rattle.dt_text.proofs.TokenLists.{words_from}
 use Rattle.dt_schedule.proofs.loop_names.read_names.Given as goal
 
 abbrev pub invariant-loop-token : goal.invariant-loop-token

@@ -1,22 +1,27 @@
-use Rattle.std.proofs.Common.{◌≡◌, ◌/◌, ◌∙◌, ℕ, List, Some, None, [], ◌∷◌, ◌++◌, take, option_map, option_to_list, ap, sym, arith}
-use Rattle.std.proofs.lemmas.List.{take_all}
+use Rattle.std.proofs.Common.{◌≡◌, ◌<◌, ◌/◌, ◌∙◌, ◌++◌, ◌∷◌, [], ℕ, List, length, get_or, map, take, ap, sym, arith}
+use Rattle.std.proofs.lemmas.List.{take_all, take_more, map-append}
 use Rattle.dt_runs.specs.Sets.{contains}
-use Rattle.dt_model.specs.Shape.{dims}
-use Rattle.dt_tensor.specs.Packing.{fronts_given}
-use Rattle.dt_tensor.specs.declared.entry.Given.{Given}
-use Rattle.dt_base.specs.Rows.{row_major}
-use Rattle.dt_tensor.proofs.GivenFronts.{fronts_push, fronts_none}
+use Rattle.dt_tensor.proofs.GivenFronts.{divided_by_one}
 use Rattle.dt_tensor.proofs.packing.fronts_of.Goals as goal
 
-pub loop-entry-init : goal.loop-entry-init
-loop-entry-init c = c.new-fronts.ensures.items ∙ fronts_none (dims c.args.shape.now) c.args.size c.args.entries.now
+pub returns-then-size-eq1-clause-fronts : goal.returns-then-size-eq1-clause-fronts
+returns-then-size-eq1-clause-fronts c = λ f.
+    ap (λ (l : List ℕ). contains l f) (divided_by_one c.args.numbers.items ∙ ap (λ (s : ℕ). map (λ n. n / s) c.args.numbers.items) (sym c.if-size-eq1.true))
 
-pub loop-entry-preserved : goal.loop-entry-preserved
-loop-entry-preserved c =
-    c.in_ok-push_front.ensures ∙ ap (λ (l : List ℕ). l ++ option_to_list (option_map (λ n. n / c.args.size) c.index.result)) c.loop-entry.invariant
-    ∙ sym (fronts_push (dims c.args.shape.now) c.args.size c.args.entries.now c.loop-entry.entry-index c.entry-item.result c.index.result c.loop-entry-test.true c.entry-item.is (ap (row_major (dims c.args.shape.now)) (sym c.as_slice.ensures) ∙ sym c.index.ensures))
+pub loop-number-init : goal.loop-number-init
+loop-number-init c = c.new-fronts.ensures.items
 
-pub returns-clause-given : goal.returns-clause-given
-returns-clause-given c = λ f.
+pub loop-number-preserved : goal.loop-number-preserved
+loop-number-preserved c =
+    let same = c.as_slice-number-items.ensures.value in
+    let room : c.loop-number.number-index < length c.args.numbers.items = omega (arith, ap length same) in
+    c.in_ok-push.ensures.items ∙ ap (λ (l : List ℕ). l ++ (get_or c.as_slice-number-items.result.now c.loop-number.number-index 0 / c.args.size) ∷ []) c.loop-number.invariant
+    ∙ ap (λ (l : List ℕ). map (λ n. n / c.args.size) (take c.loop-number.number-index c.args.numbers.items) ++ (get_or l c.loop-number.number-index 0 / c.args.size) ∷ []) same
+    ∙ sym (map-append (λ n. n / c.args.size) (take c.loop-number.number-index c.args.numbers.items) (get_or c.args.numbers.items c.loop-number.number-index 0 ∷ []))
+    ∙ ap (λ (l : List ℕ). map (λ n. n / c.args.size) l) (sym (take_more c.args.numbers.items c.loop-number.number-index 0 room))
+
+pub returns-clause-fronts : goal.returns-clause-fronts
+returns-clause-fronts c = λ f.
+    let same = c.as_slice-number-items.ensures.value in
     c.in_order.ensures.same f
-    ∙ ap (λ (l : List ℕ). contains l f) (c.loop-entry.invariant ∙ ap (λ (es : List Given). fronts_given (dims c.args.shape.now) c.args.size es) (take_all c.loop-entry.entry-index c.args.entries.now (omega arith)))
+    ∙ ap (λ (l : List ℕ). contains l f) (c.loop-number.invariant ∙ ap (λ (l : List ℕ). map (λ n. n / c.args.size) l) (take_all c.loop-number.number-index c.args.numbers.items (omega (arith, ap length same))))

@@ -16,7 +16,7 @@ pub loop-i-init : goal.loop-i-init
 loop-i-init c = record {
   clear = λ j h. absurd (omega arith);
   marks = c.in_ok-seen.ensures.items_if_clones_equal (λ y e. e)
-      ∙ seen_none (map (index_at (dims c.args.shape.now)) c.in_ok-numbers.numbers.items) c.len.result c.args.entries.now ((let e : c.len.result ≡ length c.in_ok-numbers.numbers.items = first_of (omega (arith, c.len.ensures, c.in_ok-numbers.numbers.ok), search rules) in e) ∙ sym (length-map c.in_ok-numbers.numbers.items (index_at (dims c.args.shape.now))));
+      ∙ seen_none (map (index_at (dims c.args.shape.now)) c.args.numbers.now) (length c.args.numbers.now) c.args.entries.now (sym (length-map c.args.numbers.now (index_at (dims c.args.shape.now))));
 }
 
 pub returns-in-None-clause-offence : goal.returns-in-None-clause-offence
@@ -25,28 +25,28 @@ returns-in-None-clause-offence c =
 
 pub place_of-place-requires-clause-among : goal.place_of-place-requires-clause-among
 place_of-place-requires-clause-among c =
-    ap (λ (ps : List ℕ). contains ps c.in-Some.number) c.as_slice-in-Some.ensures.value ∙ c.in_ok-numbers.ensures.given c.in-Some.number ∙ given_contains (dims c.args.shape.now) c.args.entries.now c.loop-i.i c.in-Some.number c.index-entries-i.result (omega arith) c.index-entries-i.is (found_number (dims c.args.shape.now) c.as_slice.result.now c.index-entries-i.result.at c.index.result (Some c.in-Some.number) c.index.ensures c.as_slice.ensures c.in-Some.is)
+    c.requires.given c.in-Some.number ∙ given_contains (dims c.args.shape.now) c.args.entries.now c.loop-i.i c.in-Some.number c.index-entries-i.result (omega arith) c.index-entries-i.is (found_number (dims c.args.shape.now) c.as_slice.result.now c.index-entries-i.result.at c.index.result (Some c.in-Some.number) c.index.ensures c.as_slice.ensures c.in-Some.is)
 
 pub bounds-as_slice-place : goal.bounds-as_slice-place
 bounds-as_slice-place c =
-    place_fits (is_given (take c.loop-i.i c.args.entries.now)) (map (index_at (dims c.args.shape.now)) c.in_ok-numbers.numbers.items) c.index-entries-i.result.at c.place_of-place.result c.as_slice-in-Some-2.result.now (index_place (dims c.args.shape.now) c.in_ok-numbers.numbers.items c.index-entries-i.result.at c.in-Some.number c.place_of-place.result (numbers_within (dims c.args.shape.now) c.args.entries.now c.in_ok-numbers.numbers.items c.in_ok-numbers.ensures.given) (found_number (dims c.args.shape.now) c.as_slice.result.now c.index-entries-i.result.at c.index.result (Some c.in-Some.number) c.index.ensures c.as_slice.ensures c.in-Some.is) (subst (λ (ps : List ℕ). position (λ y. y == c.in-Some.number) ps ≡ Some c.place_of-place.result) c.as_slice-in-Some.ensures.value c.place_of-place.ensures)) (c.as_slice-in-Some-2.ensures.value ∙ c.loop-i.invariant.marks)
+    place_fits (is_given (take c.loop-i.i c.args.entries.now)) (map (index_at (dims c.args.shape.now)) c.args.numbers.now) c.index-entries-i.result.at c.place_of-place.result c.as_slice-in-Some.result.now (index_place (dims c.args.shape.now) c.args.numbers.now c.index-entries-i.result.at c.in-Some.number c.place_of-place.result (numbers_within (dims c.args.shape.now) c.args.entries.now c.args.numbers.now c.requires.given) (found_number (dims c.args.shape.now) c.as_slice.result.now c.index-entries-i.result.at c.index.result (Some c.in-Some.number) c.index.ensures c.as_slice.ensures c.in-Some.is) c.place_of-place.ensures) (c.as_slice-in-Some.ensures.value ∙ c.loop-i.invariant.marks)
 
 pub returns-then-as_slice-place-clause-offence : goal.returns-then-as_slice-place-clause-offence
 returns-then-as_slice-place-clause-offence c =
-    let mark = sym (seen_tells (map (index_at (dims c.args.shape.now)) c.in_ok-numbers.numbers.items) c.args.entries.now c.loop-i.i c.place_of-place.result c.index-entries-i.result c.as_slice-in-Some-2.result.now (index_place (dims c.args.shape.now) c.in_ok-numbers.numbers.items c.index-entries-i.result.at c.in-Some.number c.place_of-place.result (numbers_within (dims c.args.shape.now) c.args.entries.now c.in_ok-numbers.numbers.items c.in_ok-numbers.ensures.given) (found_number (dims c.args.shape.now) c.as_slice.result.now c.index-entries-i.result.at c.index.result (Some c.in-Some.number) c.index.ensures c.as_slice.ensures c.in-Some.is) (subst (λ (ps : List ℕ). position (λ y. y == c.in-Some.number) ps ≡ Some c.place_of-place.result) c.as_slice-in-Some.ensures.value c.place_of-place.ensures)) (c.as_slice-in-Some-2.ensures.value ∙ c.loop-i.invariant.marks)) ∙ c.if-as_slice-place.true in
+    let mark = sym (seen_tells (map (index_at (dims c.args.shape.now)) c.args.numbers.now) c.args.entries.now c.loop-i.i c.place_of-place.result c.index-entries-i.result c.as_slice-in-Some.result.now (index_place (dims c.args.shape.now) c.args.numbers.now c.index-entries-i.result.at c.in-Some.number c.place_of-place.result (numbers_within (dims c.args.shape.now) c.args.entries.now c.args.numbers.now c.requires.given) (found_number (dims c.args.shape.now) c.as_slice.result.now c.index-entries-i.result.at c.index.result (Some c.in-Some.number) c.index.ensures c.as_slice.ensures c.in-Some.is) c.place_of-place.ensures) (c.as_slice-in-Some.ensures.value ∙ c.loop-i.invariant.marks)) ∙ c.if-as_slice-place.true in
     first_offence-here (dims c.args.shape.now) c.args.entries.now c.loop-i.i (ends.Repeated (c.loop-i.i + 1)) (omega arith) (offence_repeated (dims c.args.shape.now) c.args.entries.now c.loop-i.i c.in-Some.number c.index-entries-i.result (omega arith) c.index-entries-i.is (found_number (dims c.args.shape.now) c.as_slice.result.now c.index-entries-i.result.at c.index.result (Some c.in-Some.number) c.index.ensures c.as_slice.ensures c.in-Some.is) mark) c.loop-i.invariant.clear
 
 pub bounds-as_mut_slice-place : goal.bounds-as_mut_slice-place
 bounds-as_mut_slice-place c =
-    place_fits (is_given (take c.loop-i.i c.args.entries.now)) (map (index_at (dims c.args.shape.now)) c.in_ok-numbers.numbers.items) c.index-entries-i.result.at c.place_of-place.result c.as_mut_slice.result.now (index_place (dims c.args.shape.now) c.in_ok-numbers.numbers.items c.index-entries-i.result.at c.in-Some.number c.place_of-place.result (numbers_within (dims c.args.shape.now) c.args.entries.now c.in_ok-numbers.numbers.items c.in_ok-numbers.ensures.given) (found_number (dims c.args.shape.now) c.as_slice.result.now c.index-entries-i.result.at c.index.result (Some c.in-Some.number) c.index.ensures c.as_slice.ensures c.in-Some.is) (subst (λ (ps : List ℕ). position (λ y. y == c.in-Some.number) ps ≡ Some c.place_of-place.result) c.as_slice-in-Some.ensures.value c.place_of-place.ensures)) (c.as_mut_slice.ensures.value ∙ c.loop-i.invariant.marks)
+    place_fits (is_given (take c.loop-i.i c.args.entries.now)) (map (index_at (dims c.args.shape.now)) c.args.numbers.now) c.index-entries-i.result.at c.place_of-place.result c.as_mut_slice.result.now (index_place (dims c.args.shape.now) c.args.numbers.now c.index-entries-i.result.at c.in-Some.number c.place_of-place.result (numbers_within (dims c.args.shape.now) c.args.entries.now c.args.numbers.now c.requires.given) (found_number (dims c.args.shape.now) c.as_slice.result.now c.index-entries-i.result.at c.index.result (Some c.in-Some.number) c.index.ensures c.as_slice.ensures c.in-Some.is) c.place_of-place.ensures) (c.as_mut_slice.ensures.value ∙ c.loop-i.invariant.marks)
 
 pub loop-i-preserved : goal.loop-i-preserved
 loop-i-preserved c =
-    let mark = sym (seen_tells (map (index_at (dims c.args.shape.now)) c.in_ok-numbers.numbers.items) c.args.entries.now c.loop-i.i c.place_of-place.result c.index-entries-i.result c.as_slice-in-Some-2.result.now (index_place (dims c.args.shape.now) c.in_ok-numbers.numbers.items c.index-entries-i.result.at c.in-Some.number c.place_of-place.result (numbers_within (dims c.args.shape.now) c.args.entries.now c.in_ok-numbers.numbers.items c.in_ok-numbers.ensures.given) (found_number (dims c.args.shape.now) c.as_slice.result.now c.index-entries-i.result.at c.index.result (Some c.in-Some.number) c.index.ensures c.as_slice.ensures c.in-Some.is) (subst (λ (ps : List ℕ). position (λ y. y == c.in-Some.number) ps ≡ Some c.place_of-place.result) c.as_slice-in-Some.ensures.value c.place_of-place.ensures)) (c.as_slice-in-Some-2.ensures.value ∙ c.loop-i.invariant.marks)) ∙ c.if-as_slice-place.false in
+    let mark = sym (seen_tells (map (index_at (dims c.args.shape.now)) c.args.numbers.now) c.args.entries.now c.loop-i.i c.place_of-place.result c.index-entries-i.result c.as_slice-in-Some.result.now (index_place (dims c.args.shape.now) c.args.numbers.now c.index-entries-i.result.at c.in-Some.number c.place_of-place.result (numbers_within (dims c.args.shape.now) c.args.entries.now c.args.numbers.now c.requires.given) (found_number (dims c.args.shape.now) c.as_slice.result.now c.index-entries-i.result.at c.index.result (Some c.in-Some.number) c.index.ensures c.as_slice.ensures c.in-Some.is) c.place_of-place.ensures) (c.as_slice-in-Some.ensures.value ∙ c.loop-i.invariant.marks)) ∙ c.if-as_slice-place.false in
     record {
       clear = below_more _ _ c.loop-i.invariant.clear (offence_none (dims c.args.shape.now) c.args.entries.now c.loop-i.i c.in-Some.number c.index-entries-i.result (omega arith) c.index-entries-i.is (found_number (dims c.args.shape.now) c.as_slice.result.now c.index-entries-i.result.at c.index.result (Some c.in-Some.number) c.index.ensures c.as_slice.ensures c.in-Some.is) mark);
       marks = written c.loop-i.seen.items c.as_mut_slice.result.now c.loop-i.seen.len c.place_of-place.result true c.as_mut_slice.ensures.value (sym c.as_mut_slice.ensures.len ∙ ap length c.as_mut_slice.ensures.value)
-          ∙ seen_more (map (index_at (dims c.args.shape.now)) c.in_ok-numbers.numbers.items) c.args.entries.now c.loop-i.i c.place_of-place.result c.index-entries-i.result c.loop-i.seen.items (numbers_distinct (dims c.args.shape.now) c.in_ok-numbers.numbers.items c.in_ok-numbers.ensures.ascending (numbers_within (dims c.args.shape.now) c.args.entries.now c.in_ok-numbers.numbers.items c.in_ok-numbers.ensures.given)) (omega arith) c.index-entries-i.is (index_place (dims c.args.shape.now) c.in_ok-numbers.numbers.items c.index-entries-i.result.at c.in-Some.number c.place_of-place.result (numbers_within (dims c.args.shape.now) c.args.entries.now c.in_ok-numbers.numbers.items c.in_ok-numbers.ensures.given) (found_number (dims c.args.shape.now) c.as_slice.result.now c.index-entries-i.result.at c.index.result (Some c.in-Some.number) c.index.ensures c.as_slice.ensures c.in-Some.is) (subst (λ (ps : List ℕ). position (λ y. y == c.in-Some.number) ps ≡ Some c.place_of-place.result) c.as_slice-in-Some.ensures.value c.place_of-place.ensures)) c.loop-i.invariant.marks;
+          ∙ seen_more (map (index_at (dims c.args.shape.now)) c.args.numbers.now) c.args.entries.now c.loop-i.i c.place_of-place.result c.index-entries-i.result c.loop-i.seen.items (numbers_distinct (dims c.args.shape.now) c.args.numbers.now c.requires.ascending (numbers_within (dims c.args.shape.now) c.args.entries.now c.args.numbers.now c.requires.given)) (omega arith) c.index-entries-i.is (index_place (dims c.args.shape.now) c.args.numbers.now c.index-entries-i.result.at c.in-Some.number c.place_of-place.result (numbers_within (dims c.args.shape.now) c.args.entries.now c.args.numbers.now c.requires.given) (found_number (dims c.args.shape.now) c.as_slice.result.now c.index-entries-i.result.at c.index.result (Some c.in-Some.number) c.index.ensures c.as_slice.ensures c.in-Some.is) c.place_of-place.ensures) c.loop-i.invariant.marks;
     }
 
 pub returns-clause-offence : goal.returns-clause-offence

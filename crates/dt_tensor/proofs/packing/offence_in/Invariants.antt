@@ -9,5 +9,5 @@ use Rattle.dt_tensor.proofs.packing.offence_in.Given as goal
 abbrev pub invariant-loop-i : goal.invariant-loop-i
 invariant-loop-i l = record {
   clear : (j : ℕ) → j < l.i → offence (dims l.shape) l.entries j ≡ None;
-  marks : l.seen.items ≡ map (λ c. list_any (λ e. bytes_eq e.at c) (take l.i l.entries)) (map (index_at (dims l.shape)) l.numbers.items);
+  marks : l.seen.items ≡ map (λ c. list_any (λ e. bytes_eq e.at c) (take l.i l.entries)) (map (index_at (dims l.shape)) l.numbers);
 }

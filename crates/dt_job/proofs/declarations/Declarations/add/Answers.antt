@@ -1,5 +1,4 @@
-use Rattle.std.proofs.Common.{◌<◌, ◌++◌, ◌∷◌, [], length, length-append, None, subst, sym, ap, ◌∙◌, arith}
-use Rattle.dt_model.specs.Shape.{dims}
+use Rattle.std.proofs.Common.{◌<◌, ◌++◌, ◌∷◌, [], length, length-append, None, false, subst, sym, ap, ◌∙◌, arith}
 use Rattle.dt_job.specs.Contents.{Content, Contents}
 use Rattle.dt_job.proofs.ContentFacts.{named_more}
 use Rattle.dt_job.proofs.declarations.Declarations.add.Goals as goal
@@ -13,4 +12,4 @@ invariant_of-self-2 c = (
 pub returns-clause-ok : goal.returns-clause-ok
 returns-clause-ok c =
     c.in_ok-add.ensures.tensors ∙ ap (λ (x : Content). c.self.inside.tensors.entries ++ (c.args.name, x) ∷ []) c.new.ensures
-    ∙ ap (λ (d : Contents). d ++ (c.args.name, record { extents = dims c.args.shape; values = None; placement = None }) ∷ []) c.self.view_is
+    ∙ ap (λ (d : Contents). d ++ (c.args.name, record { packed = c.args.tensor; given = false; placement = None }) ∷ []) c.self.view_is

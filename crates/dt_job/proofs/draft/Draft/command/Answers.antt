@@ -1,4 +1,9 @@
 use Rattle.std.proofs.Common.{ℕ, List, refl, ap, sym, subst, ◌∙◌}
+use Rattle.dt_text.specs.Tokens.{tokens_of}
+use Rattle.dt_place.specs.Machines.{dims_of}
+use Rattle.dt_schedule.specs.Commands.{command_line}
+use Rattle.dt_job.specs.Contents.{stored_of_all}
+use Rattle.dt_job.specs.Stops.{Says}
 use Rattle.dt_job.specs.contracts.draft.Draft.{the_view}
 use Rattle.dt_job.specs.Drafts.{DraftView, IsScheduled, grid_of}
 use Rattle.dt_job.specs.Phases.{open_stmt}
@@ -26,9 +31,10 @@ invariant_of-self-2 c =
 
 pub returns : goal.returns
 returns c =
+    let A : DraftView → Type 0 = λ d. Says (λ _. c.command.new.self.sched) c.command.result (command_line c.in-Open.scheduled.sched (dims_of c.in-Some.machine) (stored_of_all d.tensors) (tokens_of c.args.text.now)) in
     commanded c.args.self.now c.args.text.now _ c.in-Open.scheduled c.command.new.self c.in-Some.machine c.command.result
     (ap (λ (d : DraftView). d.phase) (sym c.self.view_is) ∙ c.in-Open.is)
     (ap (λ (d : DraftView). d.machine) (sym c.self.view_is) ∙ c.in-Some.is)
     c.command.ensures.others
     (ap (λ (d : DraftView). record d { phase = phases.Open c.command.new.self }) c.self.view_is)
-    (rw (← c.dims.ensures.dims) c.command.ensures.answers)
+    (subst A c.self.view_is (rw (← c.dims.ensures.dims) c.command.ensures.answers))

@@ -1,9 +1,9 @@
 use Rattle.std.proofs.Common.{◌≡◌, All, List, ℕ, map, Some, subst, sym, ap, ◌∙◌}
 use Rattle.dt_tensor.specs.Packed.{Packed}
-use Rattle.dt_job.specs.Contents.{Content, names_of, placement_of, tensor_of}
+use Rattle.dt_job.specs.Contents.{Content, names_of, placement_of}
 use Rattle.dt_job.specs.contracts.draft.Draft.{the_view}
 use Rattle.dt_job.specs.Drafts.{DraftView, IsDraft, part_of}
-use Rattle.dt_job.specs.Jobs.{IsJobTensor}
+use Rattle.dt_job.specs.JobTensors.{IsJobTensor}
 use Rattle.dt_job.specs.Read.{job_on}
 use Rattle.dt_job.specs.declared.job.Job.{Job}
 use Rattle.dt_job.specs.Scheduled.{ScheduledView}
@@ -18,9 +18,9 @@ unwrap-machine-requires c =
 
 pub loop-name-preserved : goal.loop-name-preserved
 loop-name-preserved c = record {
-  places = mapped_more (λ (t : List ℕ × Content). placement_of t.1) c.loop-name.places.items c.push-in-loop-name.new.self.items _ (c.in-Some._name, c.in-Some.declared) c.in_ok-tensor.placement c.loop-name._name-iterator c.next.new.self c.in_ok-push-2.ensures.items c.in_ok-tensor.ensures.placement c.in-Some.ensures.steps c.loop-name.invariant.places;
-  tensors = mapped_more (λ (t : List ℕ × Content). tensor_of t.1) c.loop-name.tensors.items c.push.new.self.items _ (c.in-Some._name, c.in-Some.declared) c.in_ok-tensor.tensor c.loop-name._name-iterator c.next.new.self c.in_ok-push.ensures.items c.in_ok-tensor.ensures.tensor c.in-Some.ensures.steps c.loop-name.invariant.tensors;
-  lawful = lawful_more c.loop-name.tensors.items c.push.new.self.items c.in_ok-tensor.tensor c.in_ok-push.ensures.items c.loop-name.invariant.lawful c.in_ok-tensor.ensures.lawful;
+  places = mapped_more (λ (t : List ℕ × Content). placement_of t.1) c.loop-name.places.items c.push-in-loop-name.new.self.items _ (c.in-Some._name, c.in-Some.declared) c.into_parts-tensor.result.1 c.loop-name._name-iterator c.next.new.self c.in_ok-push-2.ensures.items c.into_parts-tensor.ensures.placement c.in-Some.ensures.steps c.loop-name.invariant.places;
+  tensors = mapped_more (λ (t : List ℕ × Content). t.1.packed) c.loop-name.tensors.items c.push.new.self.items _ (c.in-Some._name, c.in-Some.declared) c.into_parts-tensor.result.0 c.loop-name._name-iterator c.next.new.self c.in_ok-push.ensures.items c.into_parts-tensor.ensures.tensor c.in-Some.ensures.steps c.loop-name.invariant.tensors;
+  lawful = lawful_more c.loop-name.tensors.items c.push.new.self.items c.into_parts-tensor.result.0 c.in_ok-push.ensures.items c.loop-name.invariant.lawful c.into_parts-tensor.ensures.lawful;
 }
 
 known : (c : goal.After-from_vec) → c.args.self.machine ≡ Some c.unwrap-machine.result

@@ -1,6 +1,6 @@
 use Rattle.std.proofs.Common.{◌≡◌, ◌++◌, All}
 use Rattle.dt_job.specs.Contents.{places_of, tensors_of}
-use Rattle.dt_job.specs.Jobs.{IsJobTensor}
+use Rattle.dt_job.specs.JobTensors.{IsJobTensor}
 use Rattle.dt_job.proofs.draft.Draft.into_job.Given as goal
 
 abbrev pub invariant-loop-name : goal.invariant-loop-name

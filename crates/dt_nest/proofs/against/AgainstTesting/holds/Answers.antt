@@ -6,7 +6,7 @@ use Rattle.dt_nest.specs.Tree.{tree_of}
 use Rattle.dt_nest.specs.World.{world_of}
 use Rattle.dt_nest.specs.Meaning.{renamed}
 use Rattle.dt_nest.specs.Naming.{pairs_in}
-use Rattle.dt_nest.specs.Odometer.{guards_of}
+use Rattle.dt_nest.specs.Odometer.{node_of}
 use Rattle.dt_nest.specs.Values.{inside_tests, is_below}
 use Rattle.dt_nest.specs.Tables.{tabled}
 use Rattle.dt_nest.proofs.TableFacts.{table_holds_at}
@@ -18,4 +18,4 @@ returns-else-is_empty-clause-holds g c =
     ∙ ap (λ (extents : List ℕ). list_all (λ v. is_below (slice_index extents v) (tabled c.tabulate.new.values (renamed (pairs_in c.args.naming.now) v))) c.as_slice-in-Leaf.result.now) c.as_slice-in-Leaf-2.ensures
     ∙ ap (λ (guards : List ℕ). list_all (λ v. is_below (slice_index c.args.self.now.parts.now.extents v) (tabled c.tabulate.new.values (renamed (pairs_in c.args.naming.now) v))) guards) c.as_slice-in-Leaf.ensures
     ∙ table_holds_at (world_of (g.L.Locator.tensors c.args.self.now.loc.now) (seen c.args.self.now.parts.now)) c.args.self.now.parts.now.derived (pairs_in c.args.naming.now) c.args.slots.now c.tabulate.new.values c.in-Leaf.guards c.tabulate.ensures.table
-    ∙ ap (λ (leaf : Nest). (inside_tests (world_of (g.L.Locator.tensors c.args.self.now.loc.now) (seen c.args.self.now.parts.now)) c.args.self.now.parts.now.derived).holds (guards_of (tree_of leaf)) (pairs_in c.args.naming.now) c.args.slots.now) (sym c.in-Leaf.is)
+    ∙ ap (λ (leaf : Nest). (inside_tests (world_of (g.L.Locator.tensors c.args.self.now.loc.now) (seen c.args.self.now.parts.now)) c.args.self.now.parts.now.derived).holds (node_of (tree_of leaf)) (pairs_in c.args.naming.now) c.args.slots.now) (sym c.in-Leaf.is)

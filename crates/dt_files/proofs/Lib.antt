@@ -1,0 +1,5 @@
+pub mod Fields
+pub mod ReadBack
+pub mod Records
+pub mod RowLemmas
+pub mod TensorBack

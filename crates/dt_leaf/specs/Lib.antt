@@ -1,0 +1,3 @@
+pub mod AtVisit
+pub mod Clearing
+pub mod NodeWords

@@ -1,0 +1,8 @@
+use Rattle.std.proofs.Common.{◌≡◌, ◌+◌, map}
+use Rattle.std.specs.Prelude.{slice_index}
+use Rattle.dt_base.specs.Ranges.{below}
+use Rattle.dt_plan.specs.NodeWords.{capped}
+use Rattle.dt_plan.proofs.node_words.summed.Given as goal
+
+abbrev pub invariant-loop-node : goal.invariant-loop-node
+invariant-loop-node l = l.row.items ≡ map (λ n. capped (capped (slice_index l.left n) + capped (slice_index l.right n))) (below l.node)

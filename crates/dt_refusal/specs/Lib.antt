@@ -1,0 +1,3 @@
+pub mod OrderCauses
+pub mod PlanCauses
+pub mod Refusals
