@@ -3,8 +3,8 @@
 ghost use Rattle.std.specs.Prelude.{◌≡◌, ◌≤◌, IfOk};
 ghost use Rattle.dt_nest.specs.Tree.{loop_count, tree_of};
 
-use crate::fixtures::{Answer, Command, after, answered, are_moved, letter, product, tensor, told};
-use dt_base::{NoMemory, Vars};
+use crate::fixtures::{Command, after, answered, are_moved, letter, product, tensor, told};
+use dt_base::{NoMemory, ShortText, Vars};
 use dt_model::{Access, Terms};
 use dt_nest::{Kernel, Nest, Pairs, Rewrite, Walk, communicate_loop, name_of};
 use dt_rewrite::Communicate;
@@ -17,40 +17,40 @@ fn a_communicate_has_its_first_cause(rt: HostRuntime) -> Result<(), Fail> {
     let tasks = Command::Distribute(b"ij", &[5, 2]);
     let cut = Command::Split(b'k', *b"xy", 2);
     let named = Command::Communicate(b'k', b"A");
-    let rows: [(&[Command<'_>], (u8, &[u8]), Answer, &[(u8, u8)]); 10] = [
-        (&[], (b'i', b"A"), Answer::Legal, &[(b'A', b'i')]),
-        (&[tasks], (b'j', b"A"), Answer::Legal, &[(b'A', b'j')]),
-        (&[cut], (b'x', b"A"), Answer::Legal, &[(b'A', b'x')]),
-        (&[cut], (b'k', b"B"), Answer::UnknownLoop(b'k'), &[]),
-        (&[tasks], (b'i', b"AAB"), Answer::UnknownTensor(b'B'), &[]),
-        (&[tasks], (b'i', b"AA"), Answer::Communicated(b'A'), &[]),
+    let rows: [(&[Command<'_>], (u8, &[u8]), &[u8], &[(u8, u8)]); 10] = [
+        (&[], (b'i', b"A"), b"ok".as_slice(), &[(b'A', b'i')]),
+        (&[tasks], (b'j', b"A"), b"ok".as_slice(), &[(b'A', b'j')]),
+        (&[cut], (b'x', b"A"), b"ok".as_slice(), &[(b'A', b'x')]),
+        (&[cut], (b'k', b"B"), b"UnknownLoop k".as_slice(), &[]),
+        (&[tasks], (b'i', b"AAB"), b"UnknownTensor B".as_slice(), &[]),
+        (&[tasks], (b'i', b"AA"), b"Communicated A".as_slice(), &[]),
         (
             &[named],
             (b'k', b"A"),
-            Answer::Communicated(b'A'),
+            b"Communicated A".as_slice(),
             &[(b'A', b'k')],
         ),
         (
             &[named],
             (b'i', b"A"),
-            Answer::Communicated(b'A'),
+            b"Communicated A".as_slice(),
             &[(b'A', b'k')],
         ),
-        (&[tasks], (b'i', b"A"), Answer::NotBelowTask(b'i'), &[]),
-        (&[tasks], (b'k', b"A"), Answer::Legal, &[(b'A', b'k')]),
+        (&[tasks], (b'i', b"A"), b"NotBelowTask i".as_slice(), &[]),
+        (&[tasks], (b'k', b"A"), b"ok".as_slice(), &[(b'A', b'k')]),
     ];
     for (before, (var, tensors), wanted, moved) in rows {
         let sched = after(&rt, rt.alloc(), before, product(rt.alloc(), [5, 2, 3])?)?;
         let command = Command::Communicate(var, tensors);
         let (sched, answer) = answered(&rt, rt.alloc(), command, sched)?;
-        assert_eq!(rt; answer, wanted);
+        assert_eq!(rt; answer.as_slice(), wanted);
         assert!(rt; are_moved(sched.parts(), moved));
     }
     Ok(())
 }
 
 /// The cause against moving A at loop k of a nest.
-fn cause_at_k(alloc: Global, nest: Nest) -> Result<Answer, NoMemory>
+fn cause_at_k(alloc: Global, nest: Nest) -> Result<ShortText, NoMemory>
     requires { loop_count (tree_of nest) ≤ 16 }
 {
     let mut parts = product(alloc, [5, 2, 3])?.into_parts();
@@ -102,12 +102,12 @@ fn consumer_loop_k(alloc: Global) -> Result<Nest, NoMemory>
 fn a_walked_loop_or_one_of_a_consumer_takes_no_tensor(rt: HostRuntime) -> Result<(), Fail> {
     let alloc = rt.alloc();
     let plain = loop_k(alloc, None)?;
-    assert_eq!(rt; cause_at_k(alloc, plain)?, Answer::Legal);
+    assert_eq!(rt; cause_at_k(alloc, plain)?.as_slice(), b"ok");
     let vars = Vars::from_slice(alloc, &[2])?;
     let walked = loop_k(alloc, Some(Walk { tensor: 0, vars }))?;
-    assert_eq!(rt; cause_at_k(alloc, walked)?, Answer::Fixed(b'k'));
+    assert_eq!(rt; cause_at_k(alloc, walked)?.as_slice(), b"Fixed k");
     let inside = consumer_loop_k(alloc)?;
-    assert_eq!(rt; cause_at_k(alloc, inside)?, Answer::BelowPre(b'k'));
+    assert_eq!(rt; cause_at_k(alloc, inside)?.as_slice(), b"BelowPre k");
     Ok(())
 }
 

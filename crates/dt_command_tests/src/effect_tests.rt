@@ -1,6 +1,6 @@
 //! What commands make of the loops of a matrix product, worked out by hand.
 
-use crate::fixtures::{Answer, Command, How, Wanted, after, answered, product};
+use crate::fixtures::{Command, How, Wanted, after, answered, product};
 use dt_base::NoMemory;
 use std::alloc::Global;
 use std::process::Abort;
@@ -248,13 +248,14 @@ fn is_handed_back(
     alloc: Global,
     before: &[Command<'_>],
     refused: Command<'_>,
-    wanted: (Answer, Wanted<'_>),
+    wanted: (&[u8], Wanted<'_>),
 ) -> Result<bool, NoMemory> {
     let first = product(alloc, [5, 2, 3])?;
     let sched = after(rt, alloc, before, first)?;
     let (sched, once) = answered(rt, alloc, refused, sched)?;
     let (sched, twice) = answered(rt, alloc, refused, sched)?;
-    assert_eq!(rt; [once, twice], [wanted.0, wanted.0]);
+    assert_eq!(rt; once.as_slice(), wanted.0);
+    assert_eq!(rt; twice.as_slice(), wanted.0);
     let split = Command::Split(b'k', *b"pq", 2);
     let sched = after(rt, alloc, &[split], sched)?;
     Ok(wanted.1.is_met(sched.parts()))
@@ -269,17 +270,17 @@ fn a_refusal_hands_the_first_schedule_back(rt: HostRuntime) -> Result<(), Fail> 
         distributed: 0,
     };
     let rows = [
-        (Command::Split(b'i', *b"jy", 2), Answer::NameTaken(b'j')),
-        (Command::Divide(b'i', *b"xy", 0), Answer::BadNumber),
-        (Command::Reorder(b"ik"), Answer::NotOneChain),
-        (Command::Reorder(b"jj"), Answer::BadLoops),
-        (Command::Collapse(b'i', b'k', b'f'), Answer::NotAdjacent),
-        (Command::Rotate(b'i', b"k", b'r'), Answer::NotOuter(b'k')),
-        (Command::Distribute(b"i", &[5, 2]), Answer::WrongCount),
-        (Command::Distribute(b"j", &[2]), Answer::NotOutermost(b'j')),
+        (Command::Split(b'i', *b"jy", 2), b"NameTaken j".as_slice()),
+        (Command::Divide(b'i', *b"xy", 0), b"BadNumber".as_slice()),
+        (Command::Reorder(b"ik"), b"NotOneChain".as_slice()),
+        (Command::Reorder(b"jj"), b"BadLoops".as_slice()),
+        (Command::Collapse(b'i', b'k', b'f'), b"NotAdjacent".as_slice()),
+        (Command::Rotate(b'i', b"k", b'r'), b"NotOuter k".as_slice()),
+        (Command::Distribute(b"i", &[5, 2]), b"WrongCount".as_slice()),
+        (Command::Distribute(b"j", &[2]), b"NotOutermost j".as_slice()),
         (
             Command::Distribute(b"ij", &[5, 4]),
-            Answer::WrongExtent(b'j', 2, 4),
+            b"WrongExtent j 2 4".as_slice(),
         ),
     ];
     for (refused, answer) in rows {
@@ -324,22 +325,22 @@ fn a_refusal_keeps_what_commands_made(rt: HostRuntime) -> Result<(), Fail> {
         (
             Command::Split(b'i', *b"xy", 3),
             Command::Divide(b'i', *b"zw", 0),
-            (Answer::UnknownLoop(b'i'), pieces),
+            (b"UnknownLoop i".as_slice(), pieces),
         ),
         (
             Command::Divide(b'i', *b"xy", 2),
             Command::Distribute(b"x", &[3]),
-            (Answer::WrongExtent(b'x', 2, 3), pieces),
+            (b"WrongExtent x 2 3".as_slice(), pieces),
         ),
         (
             Command::Collapse(b'i', b'j', b'f'),
             Command::Reorder(b"jk"),
-            (Answer::UnknownLoop(b'j'), fused),
+            (b"UnknownLoop j".as_slice(), fused),
         ),
         (
             Command::Rotate(b'j', b"i", b'r'),
             Command::Rotate(b'r', b"ik", b's'),
-            (Answer::NotOuter(b'k'), turned),
+            (b"NotOuter k".as_slice(), turned),
         ),
     ];
     for (before, refused, wanted) in rows {
@@ -364,7 +365,7 @@ fn a_distributed_loop_is_not_free(rt: HostRuntime) -> Result<(), Fail> {
         Command::Distribute(b"ij", &[5, 2]),
     ];
     for refused in rows {
-        let answer = Answer::Distributed(b'i');
+        let answer = b"Distributed i".as_slice();
         assert!(rt; is_handed_back(&rt, rt.alloc(), &before, refused, (answer, wanted))?);
     }
     Ok(())
@@ -373,15 +374,15 @@ fn a_distributed_loop_is_not_free(rt: HostRuntime) -> Result<(), Fail> {
 #[test]
 fn a_fused_loop_has_a_largest_extent(rt: HostRuntime) -> Result<(), Fail> {
     let rows = [
-        ([4096, 4096, 1], Answer::Legal),
-        ([4097, 4096, 1], Answer::TooLarge),
-        ([u32::MAX, u32::MAX, 1], Answer::TooLarge),
+        ([4096, 4096, 1], b"ok".as_slice()),
+        ([4097, 4096, 1], b"TooLarge".as_slice()),
+        ([u32::MAX, u32::MAX, 1], b"TooLarge".as_slice()),
     ];
     for (extents, wanted) in rows {
         let sched = product(rt.alloc(), extents)?;
         let command = Command::Collapse(b'i', b'j', b'f');
         let (_, answer) = answered(&rt, rt.alloc(), command, sched)?;
-        assert_eq!(rt; answer, wanted);
+        assert_eq!(rt; answer.as_slice(), wanted);
     }
     Ok(())
 }
@@ -398,6 +399,6 @@ fn a_nest_has_at_most_sixteen_loops(rt: HostRuntime) -> Result<(), Fail> {
     }
     let split = Command::Split(last, *b"xy", 1);
     let (_, answer) = answered(&rt, rt.alloc(), split, sched)?;
-    assert_eq!(rt; answer, Answer::TooManyLoops);
+    assert_eq!(rt; answer.as_slice(), b"TooManyLoops");
     Ok(())
 }

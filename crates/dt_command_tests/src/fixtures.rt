@@ -4,69 +4,25 @@ ghost use Rattle.std.specs.Prelude.{◌≡◌, ◌+◌, ◌<◌, [], ◌∷◌, 
 ghost use Rattle.std.specs.List.{AllByRecursion};
 ghost use Rattle.std.specs.Bool.{OnTrue};
 
-use dt_base::{Extents, Name, Names, NoMemory, Vars};
+use dt_base::{Extents, Name, Names, NoMemory, ShortText, Vars};
 use dt_model::{Access, Cause, Stmt, Terms};
 use dt_nest::{Derive, Derived, Moved, Nest, Rewrite, RewriteEnd, Sched, SchedParts, name_of};
 use dt_rewrite::{Collapse, Communicate, Distribute, Divide, Reorder, Rotate, Split};
 use std::alloc::Global;
 use std::process::Abort;
 
-/// A cause, with the letter that is named.
-#[derive(Clone, Copy, Debug, PartialEq, Eq)]
-pub(crate) enum Answer {
-    Legal,
-    BadNumber,
-    NameTaken(u8),
-    WrongCount,
-    UnknownLoop(u8),
-    UnknownTensor(u8),
-    Distributed(u8),
-    Communicated(u8),
-    Fixed(u8),
-    NotOneChain,
-    NotAdjacent,
-    NotOuter(u8),
-    NotOutermost(u8),
-    NotBelowTask(u8),
-    BelowPre(u8),
-    WrongExtent(u8, u32, u32),
-    TooManyLoops,
-    TooLarge,
-    BadLoops,
-    Other,
-}
-
-pub(crate) fn told(cause: &Option<Cause>) -> Answer {
+/// The text of a cause, or `ok`.
+pub(crate) fn told(cause: &Option<Cause>) -> ShortText {
     match cause {
-        None => Answer::Legal,
-        Some(cause) => answer_of(cause),
+        None => ok(),
+        Some(cause) => cause.text(),
     }
 }
 
-fn answer_of(cause: &Cause) -> Answer {
-    match cause {
-        Cause::BadNumber => Answer::BadNumber,
-        Cause::NameTaken(name) => Answer::NameTaken(letter(name)),
-        Cause::WrongCount => Answer::WrongCount,
-        Cause::UnknownLoop(name) => Answer::UnknownLoop(letter(name)),
-        Cause::UnknownTensor(name) => Answer::UnknownTensor(letter(name)),
-        Cause::Distributed(name) => Answer::Distributed(letter(name)),
-        Cause::Communicated(name) => Answer::Communicated(letter(name)),
-        Cause::Fixed(name) => Answer::Fixed(letter(name)),
-        Cause::NotOneChain => Answer::NotOneChain,
-        Cause::NotAdjacent => Answer::NotAdjacent,
-        Cause::NotOuter(name) => Answer::NotOuter(letter(name)),
-        Cause::NotOutermost(name) => Answer::NotOutermost(letter(name)),
-        Cause::NotBelowTask(name) => Answer::NotBelowTask(letter(name)),
-        Cause::BelowPre(name) => Answer::BelowPre(letter(name)),
-        Cause::WrongExtent(name, extent, dimension) => {
-            Answer::WrongExtent(letter(name), *extent, *dimension)
-        }
-        Cause::TooManyLoops => Answer::TooManyLoops,
-        Cause::TooLarge => Answer::TooLarge,
-        Cause::BadLoops => Answer::BadLoops,
-        _ => Answer::Other,
-    }
+fn ok() -> ShortText {
+    let mut text = ShortText::new();
+    text.append(b"ok");
+    text
 }
 
 pub(crate) fn letter(name: &Name) -> u8 {
@@ -166,10 +122,10 @@ pub(crate) fn answered(
     alloc: Global,
     command: Command<'_>,
     sched: Sched,
-) -> Result<(Sched, Answer), NoMemory> {
+) -> Result<(Sched, ShortText), NoMemory> {
     match applied(rt, alloc, command, sched)? {
-        Ok(sched) => Ok((sched, Answer::Legal)),
-        Err(RewriteEnd::Illegal(sched, cause)) => Ok((sched, answer_of(&cause))),
+        Ok(sched) => Ok((sched, ok())),
+        Err(RewriteEnd::Illegal(sched, cause)) => Ok((sched, cause.text())),
         Err(RewriteEnd::NoMemory(_)) => Err(NoMemory),
     }
 }
@@ -184,7 +140,7 @@ pub(crate) fn after(
     let mut sched = first;
     for command in commands {
         let (next, answer) = answered(rt, alloc, *command, sched)?;
-        assert_eq!(rt; answer, Answer::Legal);
+        assert_eq!(rt; answer.as_slice(), b"ok");
         sched = next;
     }
     Ok(sched)

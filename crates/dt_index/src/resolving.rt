@@ -21,7 +21,7 @@ use crate::offenders::{
 };
 use crate::uneven::uneven_reduction;
 use dt_base::Names;
-use dt_model::{Cause, LineEnd, Stmt};
+use dt_model::{Cause, LineEnd, Stmt, need};
 use std::alloc::Global;
 
 /// The most variables of a statement.
@@ -40,9 +40,7 @@ pub fn resolve<L: Lookup>(alloc: Global, form: &Form, names: &L) -> Result<(Stmt
     ensures dense { IfOk result (λ r. is_dense_at (L.tensors names.now) r.0.lhs.tensor ≡ true) }
     ensures unread { IfOk result (λ r. right_side_reads r.0.lhs.tensor r.0 ≡ false) }
 {
-    if !has_good_literals(form) {
-        return Err(LineEnd::Refused(Cause::BadNumber));
-    }
+    need(has_good_literals(form), Cause::BadNumber)?;
     let right = right_accesses(alloc, form)?;
     let accesses = all_accesses(alloc, form, right.as_slice())?;
     if let Some(cause) = unknown_tensor(form, accesses.as_slice(), names) {

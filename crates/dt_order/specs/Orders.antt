@@ -1,5 +1,5 @@
 -- Orders as a job states them.
-use Rattle.std.specs.Prelude.{ℕ, suc, ◌^◌, ◌&&◌, ◌||◌, ◌==◌, Bool, List, [], ◌∷◌, length, map, take, drop, codes, unwrap_or, if◌then◌else◌, nat_le, nat_lt, Result, Ok, Err}
+use Rattle.std.specs.Prelude.{ℕ, suc, ◌^◌, ◌&&◌, ◌||◌, Bool, List, [], ◌∷◌, length, map, take, drop, codes, unwrap_or, if◌then◌else◌, nat_le, nat_lt, Result, Ok, Err}
 use Rattle.std.specs.List.{list_all, list_any, position_or_len}
 use Rattle.std.specs.Option.{is_some}
 use Rattle.std.specs.Str.{bytes_eq}

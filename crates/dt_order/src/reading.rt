@@ -10,7 +10,7 @@ ghost use Rattle.dt_order.specs.Orders.{entry_of, is_small, listing_of, order_of
 use crate::entries::{Test, entry_of};
 use crate::orders::{Entry, EntryList, Order};
 use dt_base::NoMemory;
-use dt_model::{Cause, LineEnd};
+use dt_model::{Cause, LineEnd, found, need};
 use dt_text::{Token, is_numeral, number, word, words};
 use std::alloc::Global;
 
@@ -66,13 +66,9 @@ fn read_seed(text: &[u8], tokens: &[Token]) -> Result<Order, LineEnd>
     match tokens {
         [seed] => {
             let seed = word(text, *seed);
-            if !is_numeral(seed) {
-                return Err(LineEnd::Refused(Cause::Syntax));
-            }
-            match number(seed) {
-                Some(seed) => Ok(Order::Seed(seed)),
-                None => Err(LineEnd::Refused(Cause::BadNumber)),
-            }
+            need(is_numeral(seed), Cause::Syntax)?;
+            let seed = found(number(seed), Cause::BadNumber)?;
+            Ok(Order::Seed(seed))
         }
         _ => Err(LineEnd::Refused(Cause::Syntax)),
     }
@@ -84,18 +80,11 @@ fn read_steps(alloc: Global, text: &[u8], tokens: &[Token]) -> Result<Order, Lin
     requires { All (IsToken (length text.now)) tokens.now }
     ensures { Gives (λ o. o) result (steps_of (map (token_in text.now) tokens.now)) }
 {
-    if tokens.is_empty() || !all_pass(text, tokens, Test::IsEntry) {
-        return Err(LineEnd::Refused(Cause::Syntax));
-    }
-    if !all_pass(text, tokens, Test::HasNumbers) {
-        return Err(LineEnd::Refused(Cause::BadNumber));
-    }
-    if !all_pass(text, tokens, Test::AsksUnits) {
-        return Err(LineEnd::Refused(Cause::Syntax));
-    }
-    if !all_pass(text, tokens, Test::IsSmall) {
-        return Err(LineEnd::Refused(Cause::BadNumber));
-    }
+    let are_entries = !tokens.is_empty() && all_pass(text, tokens, Test::IsEntry);
+    need(are_entries, Cause::Syntax)?;
+    need(all_pass(text, tokens, Test::HasNumbers), Cause::BadNumber)?;
+    need(all_pass(text, tokens, Test::AsksUnits), Cause::Syntax)?;
+    need(all_pass(text, tokens, Test::IsSmall), Cause::BadNumber)?;
     let items = entries(alloc, text, tokens)?;
     Ok(Order::Steps(EntryList { items }))
 }

@@ -10,7 +10,7 @@ ghost use Rattle.dt_schedule.specs.TwoLoops.{number_32, two_loops_of};
 
 use crate::loop_names::loop_named;
 use dt_base::Name;
-use dt_model::{Cause, LineEnd};
+use dt_model::{Cause, LineEnd, found};
 use dt_nest::Sched;
 use dt_text::{Token, is_name, is_numeral, number, word};
 
@@ -53,9 +53,7 @@ pub fn read_two_loops(text: &[u8], tokens: &[Token], sched: &Sched) -> Result<Tw
             if !is_form(v, outer, inner, factor) {
                 return Err(LineEnd::Refused(Cause::Syntax));
             }
-            let Some(n) = number(factor) else {
-                return Err(LineEnd::Refused(Cause::BadNumber));
-            };
+            let n = found(number(factor), Cause::BadNumber)?;
             let var = loop_named(sched, v)?;
             Ok(TwoLoops {
                 var,
