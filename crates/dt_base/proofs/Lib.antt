@@ -1,5 +1,6 @@
 pub mod Assignments
 pub mod Coordinates
+pub mod Filters
 pub mod Firsts
 pub mod Fronts
 pub mod Joins

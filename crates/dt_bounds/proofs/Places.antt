@@ -15,6 +15,7 @@ use Rattle.dt_model.specs.PositionLaws.{HasOrderedPositions}
 use Rattle.dt_model.specs.Shape.{are_extents, is_extent, shape_of_extents}
 use Rattle.dt_model.specs.declared.shape.Shape.{Shape}
 use Rattle.dt_model.specs.declared.stmt.Access.{Access}
+use Rattle.dt_base.proofs.Filters.{same_truth}
 use Rattle.dt_base.proofs.Firsts.{bytes_eq-same}
 use Rattle.dt_model.proofs.PositionFacts.{ordered_positions}
 use Rattle.dt_model.proofs.ShapeFacts.{both, extent_facts}
@@ -24,15 +25,9 @@ use Rattle.dt_base.proofs.Assignments.{length-assignments}
 use Rattle.dt_bounds.specs.Found.{is_at}
 use Rattle.dt_bounds.specs.Points.{is_reached}
 
--- tests that pass together are the same
-pub same_tests : (a b : Bool) → (a ≡ true → b ≡ true) → (b ≡ true → a ≡ true) → a ≡ b
-same_tests true b f g = sym (f refl)
-same_tests false true f g = g refl
-same_tests false false f g = refl
-
 -- a place of coordinates is the position that has them
 place_tells : (t : StoredTensor) → IsStored t → (c : List ℕ) (o : Option ℕ) → o ≡ place_in t c → (x : ℕ) → is_at o x ≡ (nat_lt x (length t.coords) && bytes_eq c (coords_at t x))
-place_tells t s c o e x = same_tests (is_at o x) (nat_lt x (length t.coords) && bytes_eq c (coords_at t x)) (forth o e) back
+place_tells t s c o e x = same_truth (is_at o x) (nat_lt x (length t.coords) && bytes_eq c (coords_at t x)) (forth o e) back
   where
     laws : HasOrderedPositions t
     laws = ordered_positions t s
@@ -94,7 +89,7 @@ clipped-same (y ∷ c) [] h = refl
 clipped-same (y ∷ c) (z ∷ d) h = ap (λ (b : Bool). b && bytes_eq (map (λ y. min y 4294967295) c) d) (here y z h.0) ∙ ap (λ (b : Bool). nat_eq y z && b) (clipped-same c d h.1)
   where
     here : (y z : ℕ) → z < 4294967295 → nat_eq (min y 4294967295) z ≡ nat_eq y z
-    here y z h = same_tests (nat_eq (min y 4294967295) z) (nat_eq y z)
+    here y z h = same_truth (nat_eq (min y 4294967295) z) (nat_eq y z)
         (λ e. let same = eqb-true (min y 4294967295) z e in eq-eqb y z (omega arith))
         (λ e. let same = eqb-true y z e in eq-eqb (min y 4294967295) z (omega arith))
 

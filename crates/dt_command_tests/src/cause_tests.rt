@@ -139,8 +139,18 @@ fn the_outermost_loops_are_distributed(rt: HostRuntime) -> Result<(), Fail> {
             [2, 2].as_slice(),
             b"UnknownLoop h".as_slice(),
         ),
-        (1, [0].as_slice(), [2, 2].as_slice(), b"WrongCount".as_slice()),
-        (1, [1].as_slice(), [2].as_slice(), b"Distributed j".as_slice()),
+        (
+            1,
+            [0].as_slice(),
+            [2, 2].as_slice(),
+            b"WrongCount".as_slice(),
+        ),
+        (
+            1,
+            [1].as_slice(),
+            [2].as_slice(),
+            b"Distributed j".as_slice(),
+        ),
         (
             0,
             [1].as_slice(),

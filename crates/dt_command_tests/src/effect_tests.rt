@@ -274,10 +274,16 @@ fn a_refusal_hands_the_first_schedule_back(rt: HostRuntime) -> Result<(), Fail> 
         (Command::Divide(b'i', *b"xy", 0), b"BadNumber".as_slice()),
         (Command::Reorder(b"ik"), b"NotOneChain".as_slice()),
         (Command::Reorder(b"jj"), b"BadLoops".as_slice()),
-        (Command::Collapse(b'i', b'k', b'f'), b"NotAdjacent".as_slice()),
+        (
+            Command::Collapse(b'i', b'k', b'f'),
+            b"NotAdjacent".as_slice(),
+        ),
         (Command::Rotate(b'i', b"k", b'r'), b"NotOuter k".as_slice()),
         (Command::Distribute(b"i", &[5, 2]), b"WrongCount".as_slice()),
-        (Command::Distribute(b"j", &[2]), b"NotOutermost j".as_slice()),
+        (
+            Command::Distribute(b"j", &[2]),
+            b"NotOutermost j".as_slice(),
+        ),
         (
             Command::Distribute(b"ij", &[5, 4]),
             b"WrongExtent j 2 4".as_slice(),

@@ -15,7 +15,7 @@ use Rattle.csv.specs.Writing.{default_writer, needs_byte, is_blank, read_back}
 use Rattle.csv.specs.declared.parser.State.TheVariants as st
 use Rattle.csv.proofs.RoundTrip.{read-write}
 use Rattle.dt_text.specs.Numbers.{is_digit, digits_value, number_of}
-use Rattle.dt_text.proofs.NumberLemmas.{digits_value-push}
+use Rattle.dt_text.proofs.Decimals.{decimal_writes}
 use Rattle.dt_files.specs.Rows.{coordinate_of, coordinates_of, entry_of, entries_of, given_with, rows_read}
 use Rattle.dt_files.specs.Written.{row_text}
 use Rattle.dt_files.specs.declared.ends.RowsEnd.{RowsEnd}
@@ -24,34 +24,6 @@ use Rattle.dt_files.proofs.Records.{all_records, good_records, AllGive}
 use Rattle.dt_tensor.specs.declared.entry.Given.{Given}
 
 -- Numbers ----------------------------------------------------------------------------------------------------------------
-
--- the digits write the number
-record Writes (n : ℕ) (ds : List ℕ) : Type 0 where
-  some : 0 < length ds
-  digits : list_all is_digit ds ≡ true
-  value : digits_value ds ≡ n
-
-digit_byte : (d : ℕ) → d < 10 → is_digit (48 + d) ≡ true
-digit_byte d h = rw (le-leb 48 (48 + d) (omega arith), le-leb (48 + d) 57 (omega arith)) refl
-
-one_digit : (n : ℕ) → n < 10 → Writes n ((48 + n) ∷ [])
-one_digit n h = record {
-  some = omega arith;
-  digits = rw (digit_byte n h) refl;
-  value = omega arith;
-}
-
-more_digits : (n : ℕ) (ds : List ℕ) → 10 ≤ n → Writes (n / 10) ds → Writes n (ds ++ ((48 + n % 10) ∷ []))
-more_digits n ds h w =
-    let last : n % 10 < 10 = omega arith in
-    record {
-      some = omega (arith, length-append ds ((48 + n % 10) ∷ []));
-      digits = rw (list_all-append is_digit ds ((48 + n % 10) ∷ []), w.digits, digit_byte (n % 10) last) refl;
-      value = digits_value-push ds (48 + n % 10) ∙ (let e : digits_value ds ≡ n / 10 = w.value in omega arith);
-    }
-
-decimal_writes : (n : ℕ) → n < 2 ^ 64 → Writes n (decimal n)
-decimal_writes n h = decimal_by_steps Writes one_digit more_digits n h
 
 -- a number that was written is read
 number_back : (n : ℕ) → n < 2 ^ 64 → number_of (decimal n) ≡ Some n

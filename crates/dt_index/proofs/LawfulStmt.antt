@@ -19,7 +19,7 @@ use Rattle.dt_index.specs.declared.form.NamedFactor.{NamedFactor}
 use Rattle.dt_index.specs.declared.form.NamedFactor.TheVariants as named
 use Rattle.dt_index.specs.declared.occurrence_list.Occurrence.{Occurrence}
 use Rattle.dt_index.proofs.NameFacts.{Differ, has, has-distinct, has-at, place-inside, number_in-place, numbers_back, numbers-front, distinct-front, none_twice}
-use Rattle.dt_index.proofs.OccurrenceFacts.{find_none, option_map-none, first_extents, occurrence_members, All-flat_map, extents_match}
+use Rattle.dt_index.proofs.OccurrenceFacts.{find_none, not_not, option_map-none, first_extents, occurrence_members, All-flat_map, extents_match}
 
 -- what the tests say of an access
 pub record Passes (tensors : List Known) (names : List (List ℕ)) (os : List Occurrence) (a : NamedAccess) : Type 0 where
@@ -58,10 +58,6 @@ lawful_access tensors names os a h =
       );
       fits = shape_there tensors a.tensor h.known ∙ ap (λ (ns : List ℕ). Some ns) (sym back);
     }
-
-not_not : (b : Bool) → not b ≡ false → b ≡ true
-not_not true h = refl
-not_not false h = cc
 
 -- all names of a statement's text
 abbrev names_in : List NamedAccess → List (List ℕ)

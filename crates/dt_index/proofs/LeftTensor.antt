@@ -18,7 +18,7 @@ use Rattle.dt_index.specs.declared.form.NamedFactor.{NamedFactor}
 use Rattle.dt_index.specs.declared.form.NamedFactor.TheVariants as named
 use Rattle.dt_index.specs.declared.form.NamedTerm.{NamedTerm}
 use Rattle.dt_index.specs.declared.occurrence_list.Occurrence.{Occurrence}
-use Rattle.dt_index.proofs.NameFacts.{bytes_eq-refl, bytes_eq-same}
+use Rattle.dt_base.proofs.Firsts.{bytes_eq-is, bytes_eq-same}
 use Rattle.dt_index.proofs.OccurrenceFacts.{found_step, option_map-none}
 
 dense_place : (tensors : List Known) (place : Option ℕ) → unwrap_or (option_map (is_dense_at tensors) place) false ≡ true → is_dense_at tensors (unwrap_or place 0) ≡ true
@@ -40,8 +40,8 @@ placed p xs h = elim (bool_cases (nat_lt (position_or_len p xs) (length xs))) [
 
 same_name : (tensors : List Known) (a l : List ℕ) (i j : ℕ) (d : Known) → i ≡ j → bytes_eq (get_or tensors i d).name a ≡ true → bytes_eq (get_or tensors j d).name l ≡ true → bytes_eq a l ≡ true
 same_name tensors a l i j d e p q =
-    let same : a ≡ l = sym (bytes_eq-same (get_or tensors i d).name a p) ∙ ap (λ (k : ℕ). (get_or tensors k d).name) e ∙ bytes_eq-same (get_or tensors j d).name l q in
-    ap (λ (n : List ℕ). bytes_eq n l) same ∙ bytes_eq-refl l
+    let same : a ≡ l = sym (bytes_eq-is (get_or tensors i d).name a p) ∙ ap (λ (k : ℕ). (get_or tensors k d).name) e ∙ bytes_eq-is (get_or tensors j d).name l q in
+    ap (λ (n : List ℕ). bytes_eq n l) same ∙ bytes_eq-same l
 
 -- tensors of other names have other places
 places_differ : (tensors : List Known) (a l : List ℕ) → is_none (place_of a tensors) ≡ false → is_none (place_of l tensors) ≡ false → bytes_eq a l ≡ false

@@ -5,14 +5,15 @@ use Rattle.std.specs.List.{AllByRecursion, IsDistinct, list_any, position_or_len
 use Rattle.std.specs.Str.{bytes_eq}
 use Rattle.std.proofs.lemmas.Bool.{or_parts, lt-ltb, leb-false, cases_lt}
 use Rattle.std.proofs.Math.Bool.{or-true}
-use Rattle.std.proofs.lemmas.Bool.Decides.{nat_tests, same_from_decides}
-use Rattle.std.proofs.lemmas.Slice.Eq.{bytes_eq-Decides}
+use Rattle.std.proofs.lemmas.Bool.Decides.{nat_tests}
 use Rattle.std.proofs.lemmas.List.{append-nil, append_assoc, take_more, length-map, get_or-map, same_lists, get_or_append_left, get_or_at}
 use Rattle.std.proofs.lemmas.List.Elements.{filter-append, All-head, All-tail}
 use Rattle.std.proofs.lemmas.List.Folds.{list_any_at, list_any-append}
 use Rattle.std.proofs.lemmas.List.Sums.{sum_by-cons}
 use Rattle.std.proofs.lemmas.Map.Keys.{IsDistinct-cons}
 use Rattle.dt_base.specs.Ranges.{below}
+use Rattle.dt_base.proofs.Firsts.{bytes_eq-is, bytes_eq-same, bytes_eq-swap}
+use Rattle.dt_base.proofs.Ranges.{length-below, get_or-below}
 use Rattle.dt_index.specs.NameSets.{with_name}
 use Rattle.dt_index.specs.Resolve.{distinct, number_in}
 
@@ -33,19 +34,10 @@ abbrev pub Differ : List (List ℕ) → Type 0
 Differ [] = Unit {0}
 Differ (x ∷ xs) = (has xs x ≡ false) × Differ xs
 
-pub bytes_eq-same : (a b : List ℕ) → bytes_eq a b ≡ true → a ≡ b
-bytes_eq-same a b h = (bytes_eq-Decides a b).0 h
-
-pub bytes_eq-refl : (a : List ℕ) → bytes_eq a a ≡ true
-bytes_eq-refl a = (bytes_eq-Decides a a).1 refl
-
-pub bytes_eq-swap : (a b : List ℕ) → bytes_eq a b ≡ bytes_eq b a
-bytes_eq-swap a b = same_from_decides (bytes_eq a b) (bytes_eq b a) (bytes_eq-Decides a b) (λ t. sym (bytes_eq-same b a t), λ e. (bytes_eq-Decides b a).1 (sym e))
-
 kept_step : (x v y : List ℕ) (ys kept : List (List ℕ)) (b : Bool) → bytes_eq y x ≡ b → bytes_eq x v ≡ false
     → has kept v ≡ has ys v → has (cond (not b) (y ∷ kept) kept) v ≡ (bytes_eq y v || has ys v)
 kept_step x v y ys kept true t d ih =
-    let gone : bytes_eq y v ≡ false = ap (λ (z : List ℕ). bytes_eq z v) (bytes_eq-same y x t) ∙ d in
+    let gone : bytes_eq y v ≡ false = ap (λ (z : List ℕ). bytes_eq z v) (bytes_eq-is y x t) ∙ d in
     rw gone ih
 kept_step x v y ys kept false t d ih = ap (λ (z : Bool). bytes_eq y v || z) ih
 
@@ -91,7 +83,7 @@ number_in-place xs v h = rw (lt-ltb (place xs v) (length xs) (place-inside xs v 
 
 value_step : (g : List ℕ → ℕ) (x v : List ℕ) (xs : List (List ℕ)) (b : Bool) → bytes_eq x v ≡ b → (has xs v ≡ true → get_or (map g xs) (place xs v) 0 ≡ g v) → (b || has xs v) ≡ true
     → get_or (g x ∷ map g xs) (cond (not b) (1 + place xs v) 0) 0 ≡ g v
-value_step g x v xs true t ih h = ap g (bytes_eq-same x v t)
+value_step g x v xs true t ih h = ap g (bytes_eq-is x v t)
 value_step g x v xs false t ih h = (let next : 1 + place xs v ≡ suc (place xs v) = omega arith in rw next (ih h))
 
 -- what belongs to a name stands at its place
@@ -116,14 +108,30 @@ lacks (y ∷ ys) x (suc k) d h l = lacks ys x k d (or_parts (bytes_eq y x) (has 
 -- the names of a front without repeats have their indices as places
 pub place-front : (xs zs : List (List ℕ)) (k : ℕ) (d : List ℕ) → Differ xs → k < length xs → place (xs ++ zs) (get_or xs k d) ≡ k
 place-front [] zs k d h l = absurd (omega arith)
-place-front (x ∷ xs) zs zero d h l = rw (bytes_eq-refl x) refl
+place-front (x ∷ xs) zs zero d h l = rw (bytes_eq-same x) refl
 place-front (x ∷ xs) zs (suc k) d h l =
     let other : bytes_eq x (get_or xs k d) ≡ false = bytes_eq-swap x (get_or xs k d) ∙ lacks xs x k d h.0 (omega arith) in
     rw other (omega (arith, place-front xs zs k d h.1 (omega arith)))
 
 -- a list has the name at each of its places
 pub has-at : (xs : List (List ℕ)) (k : ℕ) (d : List ℕ) → k < length xs → has xs (get_or xs k d) ≡ true
-has-at xs k d l = list_any_at (λ w. bytes_eq w (get_or xs k d)) xs k d l (bytes_eq-refl (get_or xs k d))
+has-at xs k d l = list_any_at (λ w. bytes_eq w (get_or xs k d)) xs k d l (bytes_eq-same (get_or xs k d))
+
+-- a name of the front is one of the whole
+pub has-front : (xs zs : List (List ℕ)) (v : List ℕ) → has xs v ≡ true → has (xs ++ zs) v ≡ true
+has-front xs zs v h = list_any-append (λ w. bytes_eq w v) xs zs ∙ ap (λ (b : Bool). b || has zs v) h
+
+-- the names of a front without repeats have their indices as places
+pub place-front : (xs zs : List (List ℕ)) (k : ℕ) (d : List ℕ) → Differ xs → k < length xs → place (xs ++ zs) (get_or xs k d) ≡ k
+place-front [] zs k d h l = absurd (omega arith)
+place-front (x ∷ xs) zs zero d h l = rw (bytes_eq-same x) refl
+place-front (x ∷ xs) zs (suc k) d h l =
+    let other : bytes_eq x (get_or xs k d) ≡ false = bytes_eq-swap x (get_or xs k d) ∙ lacks xs x k d h.0 (omega arith) in
+    rw other (omega (arith, place-front xs zs k d h.1 (omega arith)))
+
+-- a list has the name at each of its places
+pub has-at : (xs : List (List ℕ)) (k : ℕ) (d : List ℕ) → k < length xs → has xs (get_or xs k d) ≡ true
+has-at xs k d l = list_any_at (λ w. bytes_eq w (get_or xs k d)) xs k d l (bytes_eq-same (get_or xs k d))
 
 -- a name of the front is one of the whole
 pub has-front : (xs zs : List (List ℕ)) (v : List ℕ) → has xs v ≡ true → has (xs ++ zs) v ≡ true
@@ -181,7 +189,7 @@ once_step : (x : List ℕ) (xs : List (List ℕ)) (n : ℕ) (b : Bool) (rest : O
 once_step x xs n true rest t l h = cc
 once_step x xs n false rest t l h =
     let few : n < 2 = leb-false 2 n t in
-    let more : times (x ∷ xs) x ≡ 1 + times xs x = sum_by-cons (λ w. cond (bytes_eq w x) 1 0) x xs ∙ ap (λ (b : Bool). cond {A = ℕ} b 1 0 + times xs x) (bytes_eq-refl x) in
+    let more : times (x ∷ xs) x ≡ 1 + times xs x = sum_by-cons (λ w. cond (bytes_eq w x) 1 0) x xs ∙ ap (λ (b : Bool). cond {A = ℕ} b 1 0 + times xs x) (bytes_eq-same x) in
     (lacks_uncounted xs x (omega arith), h)
 
 once : (all xs : List (List ℕ)) → ((v : List ℕ) → times xs v ≤ times all v) → find (λ v. nat_le 2 (times all v)) xs ≡ None → Differ xs
@@ -263,7 +271,7 @@ place-in-front (x ∷ xs) zs v h = front_step (bytes_eq x v) (place-in-front xs 
 
 name_step : (p : List ℕ → Bool) (x v : List ℕ) (xs : List (List ℕ)) (b q : Bool) → bytes_eq x v ≡ b → p x ≡ q → (find p xs ≡ None → has xs v ≡ true → p v ≡ false) → cond q (Some x) (find p xs) ≡ None → (b || has xs v) ≡ true → p v ≡ false
 name_step p x v xs b true e q ih h t = cc
-name_step p x v xs true false e q ih h t = ap (λ (w : List ℕ). p w) (sym (bytes_eq-same x v e)) ∙ q
+name_step p x v xs true false e q ih h t = ap (λ (w : List ℕ). p w) (sym (bytes_eq-is x v e)) ∙ q
 name_step p x v xs false false e q ih h t = ih h t
 
 -- a search over names that finds none passed each name that the list has
@@ -273,7 +281,7 @@ passed_name p (x ∷ xs) v h t = name_step p x v xs (bytes_eq x v) (p x) refl re
 
 -- equal names have one number
 pub same-number : (xs : List (List ℕ)) (u v : List ℕ) → bytes_eq u v ≡ true → number_in xs u ≡ number_in xs v
-same-number xs u v t = ap (λ (w : List ℕ). number_in xs w) (bytes_eq-same u v t)
+same-number xs u v t = ap (λ (w : List ℕ). number_in xs w) (bytes_eq-is u v t)
 
 -- a number equals itself
 pub equal-number : (n : ℕ) → nat_eq n n ≡ true

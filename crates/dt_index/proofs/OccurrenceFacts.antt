@@ -11,7 +11,8 @@ use Rattle.dt_index.specs.declared.occurrence_list.Occurrence.{Occurrence}
 use Rattle.dt_index.specs.Known.{Known}
 use Rattle.dt_index.specs.Resolve.{clashes, extent_of, extent_clash, named_extents, access_occurrences}
 use Rattle.dt_index.specs.declared.form.NamedAccess.{NamedAccess}
-use Rattle.dt_index.proofs.NameFacts.{bytes_eq-refl, has, passed_name}
+use Rattle.dt_base.proofs.Firsts.{bytes_eq-same}
+use Rattle.dt_index.proofs.NameFacts.{has, passed_name}
 
 -- a search that finds nothing passed its first element, and finds nothing behind it
 pub found_step : {X : Type 0} (x : X) (b : Bool) (rest : Option X) → cond b (Some x) rest ≡ None → (b ≡ false) × (rest ≡ None)
@@ -24,6 +25,12 @@ find_none p [] k d h l = absurd (omega arith)
 find_none p (x ∷ xs) zero d h l = (found_step x (p x) (find p xs) h).0
 find_none p (x ∷ xs) (suc k) d h l = find_none p xs k d (found_step x (p x) (find p xs) h).1 (omega arith)
 
+-- a test that fails the other way round passes
+pub not_not : (b : Bool) → not b ≡ false → b ≡ true
+not_not true h = refl
+not_not false h = cc
+
+-- what is made of nothing alone is nothing
 pub option_map-none : {X Y : Type 0} (f : X → Y) (o : Option X) → option_map f o ≡ None → o ≡ None
 option_map-none f None h = refl
 option_map-none f (Some x) h = cc
@@ -36,10 +43,6 @@ any_at p (x ∷ xs) (suc k) d h l = any_at p xs k d (or_parts (p x) (list_any p 
 
 same_from : (n m : ℕ) (b : Bool) → b ≡ true → (b && not (n == m)) ≡ false → m ≡ n
 same_from n m true t h = sym (eqb-true n m (not_not (n == m) h))
-  where
-    not_not : (b : Bool) → not b ≡ false → b ≡ true
-    not_not true h = refl
-    not_not false h = cc
 same_from n m false t h = cc
 
 -- where no variable clashes, the first occurrence of each has the extent of all
@@ -48,7 +51,7 @@ first_extents os variables members h k d l =
     let o : Occurrence = get_or os k d in
     let nothing : find (clashes os) variables ≡ None = option_map-none _ (find (clashes os) variables) h in
     let clear : clashes os o.name ≡ false = passed_name (clashes os) variables o.name nothing (members k d l) in
-    same_from o.extent (extent_of os o.name) (bytes_eq o.name o.name) (bytes_eq-refl o.name) (any_at (λ p. bytes_eq p.name o.name && not (p.extent == extent_of os o.name)) os k d clear l)
+    same_from o.extent (extent_of os o.name) (bytes_eq o.name o.name) (bytes_eq-same o.name) (any_at (λ p. bytes_eq p.name o.name && not (p.extent == extent_of os o.name)) os k d clear l)
 
 zipped_members : (names vars : List (List ℕ)) (extents : List ℕ) → All (λ v. has names v ≡ true) vars → All {X = Occurrence} (λ o. has names o.name ≡ true) (map (λ p. record { name = p.0; extent = p.1 }) (zip vars extents))
 zipped_members names [] extents h = All-nil {X = Occurrence} (λ o. has names o.name ≡ true)

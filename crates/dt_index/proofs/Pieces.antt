@@ -12,7 +12,7 @@ use Rattle.dt_text.proofs.WordLemmas.{bool_cases, starts_word as word_begins}
 use Rattle.dt_index.specs.Symbols.{first_len, goes_on, pieces_of, starts_with_plus_equals, starts_word}
 
 -- a byte of a name is no blank
-name_is_no_blank : (b : ℕ) → is_name_byte b ≡ true → is_blank b ≡ false
+pub name_is_no_blank : (b : ℕ) → is_name_byte b ≡ true → is_blank b ≡ false
 name_is_no_blank b h = grind (arith, nat_tests)
 
 blank_first : (b : ℕ) (bs : List ℕ) → is_blank b ≡ true → pieces_of (b ∷ bs) ≡ pieces_of bs
@@ -36,13 +36,16 @@ alone b bs e s = rw (e, s) refl
 goes_on-word : (b : ℕ) (bs : List ℕ) → is_name_byte b ≡ true → starts_word bs ≡ true → goes_on b bs ≡ true
 goes_on-word b bs n s = rw (n, s) refl
 
-joined : (b : ℕ) (bs : List ℕ) → is_blank b ≡ false → goes_on b bs ≡ true → pieces_of (b ∷ bs) ≡ onto_first b (pieces_of bs)
+-- a byte that goes on stands in front of the first piece
+pub joined : (b : ℕ) (bs : List ℕ) → is_blank b ≡ false → goes_on b bs ≡ true → pieces_of (b ∷ bs) ≡ onto_first b (pieces_of bs)
 joined b bs e g = rw (e, g) refl
 
-name_is_no_plus : (b : ℕ) → is_name_byte b ≡ true → (b == 43) ≡ false
+-- a byte of a name is no plus
+pub name_is_no_plus : (b : ℕ) → is_name_byte b ≡ true → (b == 43) ≡ false
 name_is_no_plus b h = grind (arith, nat_tests)
 
-no_word : (b : ℕ) (bs : List ℕ) → is_name_byte b ≡ true → starts_word bs ≡ false → goes_on b bs ≡ false
+-- no word goes on
+pub no_word : (b : ℕ) (bs : List ℕ) → is_name_byte b ≡ true → starts_word bs ≡ false → goes_on b bs ≡ false
 no_word b bs n s = rw (n, s, name_is_no_plus b n) refl
 
 no_name : (b : ℕ) (bs : List ℕ) → is_name_byte b ≡ false → starts_with_plus_equals (b ∷ bs) ≡ false → goes_on b bs ≡ false

@@ -11,6 +11,7 @@ use Rattle.std.proofs.lemmas.List.Sums.{passes_at_first}
 use Rattle.dt_model.specs.declared.cause.Cause.{Cause}
 use Rattle.dt_model.specs.declared.cause.Cause.TheVariants as cause
 use Rattle.dt_model.specs.Steps.{◌>>=◌, need, none}
+use Rattle.dt_model.proofs.StepFacts.{first_ok, same_ok}
 use Rattle.dt_index.specs.Known.{Known, place_of}
 use Rattle.dt_index.specs.Printed.{form_text, name_at, named_access, named_factor, named_stmt, named_term, stmt_text}
 use Rattle.dt_index.specs.Resolve.{Resolved, access_in, accesses_of, extent_clash, has_dense_output, has_few_terms, has_good_literals, lhs_repeats, number_in, numbered, numbered_factor, numbered_term, occurrences, output_read, resolved_of, stmt_of, term_accesses, uneven_reduction, unknown_tensor, variables_of, wrong_order}
@@ -19,8 +20,9 @@ use Rattle.dt_index.specs.declared.form.NamedAccess.{NamedAccess}
 use Rattle.dt_index.specs.declared.form.NamedFactor.{NamedFactor}
 use Rattle.dt_index.specs.declared.form.NamedFactor.TheVariants as factor
 use Rattle.dt_index.specs.declared.form.NamedTerm.{NamedTerm}
-use Rattle.dt_index.proofs.NameFacts.{bytes_eq-refl, bytes_eq-same, has, has-distinct, number_in-place, place, place-inside}
-use Rattle.dt_index.proofs.PrintOrigins.{first_ok, same_ok}
+use Rattle.dt_base.proofs.Firsts.{bytes_eq-is, bytes_eq-same}
+use Rattle.dt_index.proofs.OccurrenceFacts.{option_map-none}
+use Rattle.dt_index.proofs.NameFacts.{has, has-distinct, has-front, number_in-place, place, place-inside}
 use Rattle.dt_index.proofs.PrintForms.{IsNumber, IsGoodFactor, IsGoodTerm, IsGoodForm, access_with, form_with, term_with}
 
 -- Tensors and variables -----------------------------------------------------------------------------------------------
@@ -36,7 +38,7 @@ nobody = record { name = []; extents = []; dense = true }
 tensor_at : (tensors : List Known) (name : List ℕ) (k : ℕ) → place_of name tensors ≡ Some k → get_or (names_of tensors) k [] ≡ name
 tensor_at tensors name k h =
     let there = position-Some (λ t. bytes_eq t.name name) tensors k nobody h in
-    get_or-map (λ t. t.name) tensors k nobody [] there.0 ∙ bytes_eq-same (get_or tensors k nobody).name name there.1
+    get_or-map (λ t. t.name) tensors k nobody [] there.0 ∙ bytes_eq-is (get_or tensors k nobody).name name there.1
 
 tensor_by : (tensors : List Known) (name : List ℕ) (o : Option ℕ) → place_of name tensors ≡ o → is_none o ≡ false → get_or (names_of tensors) (unwrap_or o 0) [] ≡ name
 tensor_by tensors name None e h = cc
@@ -49,7 +51,7 @@ tensor_back tensors name h = tensor_by tensors name (place_of name tensors) refl
 -- the number of a variable of the list has its name
 var_back : (vs : List (List ℕ)) (v : List ℕ) → has vs v ≡ true → name_at vs (number_in vs v) ≡ v
 var_back vs v h =
-    ap (λ (k : ℕ). get_or vs k []) (number_in-place vs v h) ∙ bytes_eq-same (get_or vs (place vs v) []) v (passes_at_first (λ w. bytes_eq w v) vs [] (place-inside vs v h))
+    ap (λ (k : ℕ). get_or vs k []) (number_in-place vs v h) ∙ bytes_eq-is (get_or vs (place vs v) []) v (passes_at_first (λ w. bytes_eq w v) vs [] (place-inside vs v h))
 
 vars_back : (vs us : List (List ℕ)) → AllByRecursion (λ v. has vs v ≡ true) us → map (name_at vs) (map (number_in vs) us) ≡ us
 vars_back vs [] h = refl
@@ -112,15 +114,12 @@ form_back tensors f l h good =
 covered_vars : (vs us : List (List ℕ)) → ((v : List ℕ) → has us v ≡ true → has vs v ≡ true) → AllByRecursion (λ v. has vs v ≡ true) us
 covered_vars vs [] k = tt
 covered_vars vs (u ∷ us) k =
-    let here : has (u ∷ us) u ≡ true = ap (λ (b : Bool). b || has us u) (bytes_eq-refl u) in
+    let here : has (u ∷ us) u ≡ true = ap (λ (b : Bool). b || has us u) (bytes_eq-same u) in
     (k u here, covered_vars vs us (λ v h. k v (or_right (bytes_eq u v) (has us v) h)))
 
 -- the variables of these accesses
 abbrev pub vars_in : List NamedAccess → List (List ℕ)
 vars_in accesses = flat_map (λ a. a.vars) accesses
-
-in_front : (xs ys : List (List ℕ)) (v : List ℕ) → has xs v ≡ true → has (xs ++ ys) v ≡ true
-in_front xs ys v h = list_any-append (λ w. bytes_eq w v) xs ys ∙ or_left (has xs v) (has ys v) h
 
 in_back : (xs ys : List (List ℕ)) (v : List ℕ) → has ys v ≡ true → has (xs ++ ys) v ≡ true
 in_back xs ys v h = list_any-append (λ w. bytes_eq w v) xs ys ∙ or_right (has xs v) (has ys v) h
@@ -129,17 +128,13 @@ not_none : {A : Type 0} (b : Bool) (x : A) (o : Option A) → cond b (Some x) o 
 not_none true x o h = cc
 not_none false x o h = (refl, h)
 
-map_none : {A B : Type 0} (g : A → B) (o : Option A) → option_map g o ≡ None → o ≡ None
-map_none g None h = refl
-map_none g (Some x) h = cc
-
 numbered_accesses : (tensors : List Known) (vs : List (List ℕ)) (more : List NamedAccess) → find (λ a. is_none (place_of a.tensor tensors)) more ≡ None
     → ((v : List ℕ) → has (vars_in more) v ≡ true → has vs v ≡ true) → AllByRecursion (IsNumbered tensors vs) more
 numbered_accesses tensors vs [] h k = tt
 numbered_accesses tensors vs (a ∷ more) h k =
     let here : (is_none (place_of a.tensor tensors) ≡ false) × (find (λ a. is_none (place_of a.tensor tensors)) more ≡ None) =
     not_none (is_none (place_of a.tensor tensors)) a (find (λ a. is_none (place_of a.tensor tensors)) more) h in
-    let first : IsNumbered tensors vs a = record { known = here.0; vars = covered_vars vs a.vars (λ v t. k v (in_front a.vars (vars_in more) v t)) } in
+    let first : IsNumbered tensors vs a = record { known = here.0; vars = covered_vars vs a.vars (λ v t. k v (has-front a.vars (vars_in more) v t)) } in
     (first, numbered_accesses tensors vs more here.1 (λ v t. k v (in_back a.vars (vars_in more) v t)))
 
 factors_apart : (tensors : List Known) (vs : List (List ℕ)) (gs : List NamedFactor) (rest : List NamedAccess) → AllByRecursion (IsNumbered tensors vs) (filter_map access_in gs ++ rest)
@@ -198,7 +193,7 @@ resolves tensors f r h =
 known_there : (tensors : List Known) (f : Form) → unknown_tensor tensors f ≡ None → AllByRecursion (IsNumbered tensors (variables_of f)) (accesses_of f)
 known_there tensors f h =
     numbered_accesses tensors (variables_of f) (accesses_of f)
-    (map_none (λ a. cause.UnknownTensor a.tensor) (find (λ a. is_none (place_of a.tensor tensors)) (accesses_of f)) h)
+    (option_map-none (λ a. cause.UnknownTensor a.tensor) (find (λ a. is_none (place_of a.tensor tensors)) (accesses_of f)) h)
     (λ v t. has-distinct (vars_in (accesses_of f)) v ∙ t)
 
 -- the literals of a form that is resolved are numbers

@@ -8,6 +8,7 @@ use Rattle.dt_text.specs.Numbers.{digits_value, is_digit, is_numeral, number_of}
 use Rattle.dt_model.specs.declared.cause.Cause.{Cause}
 use Rattle.dt_model.specs.declared.cause.Cause.TheVariants as cause
 use Rattle.dt_model.specs.Steps.{◌>>=◌, found, need}
+use Rattle.dt_model.proofs.StepFacts.{GivesSame, first_ok, same_ok}
 use Rattle.dt_index.specs.Form.{access_of, factor_of, factor_parts, factors_in, form_of, is_assignment, is_close, is_comma, is_minus, is_open, is_plus_equals, is_plus_or_minus, is_times, name_of, onto_first_part, onto_first_signed, right_side_of, term_parts, terms_in, vars_behind, vars_of, SignedPart}
 use Rattle.dt_index.specs.Resolve.{has_good_literals, is_bad_literal}
 use Rattle.dt_index.specs.Symbols.{pieces_of, sign_of, symbol_of, symbols_from, symbols_of}
@@ -19,20 +20,6 @@ use Rattle.dt_index.specs.declared.form.NamedTerm.{NamedTerm}
 use Rattle.dt_index.specs.declared.symbol_list.Symbol.{Symbol}
 use Rattle.dt_index.specs.declared.symbol_list.Symbol.TheVariants as symbol
 use Rattle.dt_index.proofs.PrintForms.{HasSome, IsName, IsNumber, IsSmallNumber, IsGoodAccess, IsGoodFactor, IsGoodTerm, IsGoodForm, access_with, form_with, term_with}
-
--- Steps ---------------------------------------------------------------------------------------------------------------
-
--- a reading that gives a value has its first step's value
-pub first_ok : {A B : Type 0} (r : Result A Cause) (f : A → Result B Cause) (y : B) → (r >>= f) ≡ Ok y → (x : A) × (r ≡ Ok x) × (f x ≡ Ok y)
-first_ok (Ok x) f y h = (x, refl, h)
-first_ok (Err e) f y h = cc
-
--- the same value is given
-abbrev pub GivesSame : {A : Type 0} → A → A → Type 0
-GivesSame {A} x y = ◌≡◌ {A = Result A Cause} (Ok x) (Ok y)
-
-pub same_ok : {A : Type 0} (x y : A) → GivesSame x y → x ≡ y
-same_ok x y h = cc
 
 found_some : {A : Type 0} (o : Option A) (c : Cause) (x : A) → found o c ≡ Ok x → o ≡ Some x
 found_some None c x h = cc

@@ -10,10 +10,11 @@ use Rattle.dt_text.specs.Lines.{onto_first}
 use Rattle.dt_text.specs.Names.{is_letter, is_name, is_name_byte}
 use Rattle.dt_text.specs.Numbers.{digits_value, is_digit, is_numeral, number_of}
 use Rattle.dt_text.specs.Tokens.{is_blank}
-use Rattle.dt_text.proofs.NumberLemmas.{digits_value-push}
+use Rattle.dt_text.proofs.Decimals.{Writes, decimal_writes}
 use Rattle.dt_index.specs.Symbols.{goes_on, pieces_of, starts_word, symbol_of, symbols_from, symbols_of}
 use Rattle.dt_index.specs.declared.symbol_list.Symbol.{Symbol}
 use Rattle.dt_index.specs.declared.symbol_list.Symbol.TheVariants as symbol
+use Rattle.dt_index.proofs.Pieces.{joined, name_is_no_blank, no_word}
 use Rattle.dt_index.proofs.PrintForms.{IsName}
 
 -- the text has these symbols
@@ -22,30 +23,18 @@ Reads text symbols = symbols_of text ≡ Ok symbols
 
 -- Pieces --------------------------------------------------------------------------------------------------------------
 
-no_blank : (b : ℕ) → is_name_byte b ≡ true → is_blank b ≡ false
-no_blank b h = grind (arith, nat_tests)
-
-no_plus : (b : ℕ) → is_name_byte b ≡ true → (b == 43) ≡ false
-no_plus b h = grind (arith, nat_tests)
-
 alone : (b : ℕ) (bs : List ℕ) → is_blank b ≡ false → goes_on b bs ≡ false → pieces_of (b ∷ bs) ≡ (b ∷ []) ∷ pieces_of bs
 alone b bs e g = rw (e, g) refl
-
-longer : (b : ℕ) (bs : List ℕ) → is_blank b ≡ false → goes_on b bs ≡ true → pieces_of (b ∷ bs) ≡ onto_first b (pieces_of bs)
-longer b bs e g = rw (e, g) refl
-
-word_stops : (b : ℕ) (rest : List ℕ) → is_name_byte b ≡ true → starts_word rest ≡ false → goes_on b rest ≡ false
-word_stops b rest h s = rw (s, no_plus b h, h) refl
 
 word_goes_on : (b c : ℕ) (cs : List ℕ) → is_name_byte b ≡ true → is_name_byte c ≡ true → goes_on b (c ∷ cs) ≡ true
 word_goes_on b c cs h k = rw (h, k) refl
 
 -- a word is a piece where no word goes on behind it
 word_piece : (b : ℕ) (bs rest : List ℕ) → is_name_byte b ≡ true → list_all is_name_byte bs ≡ true → starts_word rest ≡ false → pieces_of ((b ∷ bs) ++ rest) ≡ (b ∷ bs) ∷ pieces_of rest
-word_piece b [] rest h a s = alone b rest (no_blank b h) (word_stops b rest h s)
+word_piece b [] rest h a s = alone b rest (name_is_no_blank b h) (no_word b rest h s)
 word_piece b (c ∷ cs) rest h a s =
     let parts : (is_name_byte c ≡ true) × (list_all is_name_byte cs ≡ true) = and_parts (is_name_byte c) (list_all is_name_byte cs) a in
-    longer b ((c ∷ cs) ++ rest) (no_blank b h) (word_goes_on b c (cs ++ rest) h parts.0) ∙ ap (λ (ps : List (List ℕ)). onto_first b ps) (word_piece c cs rest parts.0 parts.1 s)
+    joined b ((c ∷ cs) ++ rest) (name_is_no_blank b h) (word_goes_on b c (cs ++ rest) h parts.0) ∙ ap (λ (ps : List (List ℕ)). onto_first b ps) (word_piece c cs rest parts.0 parts.1 s)
 
 -- Symbols -------------------------------------------------------------------------------------------------------------
 
@@ -100,34 +89,6 @@ name_reads (b ∷ bs) rest ss h s r =
     let short : ((is_letter b && list_all is_name_byte bs) ≡ true) × (nat_le (length (b ∷ bs)) 16 ≡ true) = and_parts (is_letter b && list_all is_name_byte bs) (nat_le (length (b ∷ bs)) 16) h in
     let parts : (is_letter b ≡ true) × (list_all is_name_byte bs ≡ true) = and_parts (is_letter b) (list_all is_name_byte bs) short.0 in
     piece_reads (b ∷ bs) ((b ∷ bs) ++ rest) rest (symbol.Name (b ∷ bs)) ss (name_symbol (b ∷ bs) h) (word_piece b bs rest (letter_is_name_byte b parts.0) parts.1 s) r
-
--- the digits write the number
-record Writes (n : ℕ) (ds : List ℕ) : Type 0 where
-  some : 0 < length ds
-  digits : list_all is_digit ds ≡ true
-  value : digits_value ds ≡ n
-
-digit_byte : (d : ℕ) → d < 10 → is_digit (48 + d) ≡ true
-digit_byte d h = rw (le-leb 48 (48 + d) (omega arith), le-leb (48 + d) 57 (omega arith)) refl
-
-one_digit : (n : ℕ) → n < 10 → Writes n ((48 + n) ∷ [])
-one_digit n h = record {
-  some = omega arith;
-  digits = rw (digit_byte n h) refl;
-  value = omega arith;
-}
-
-more_digits : (n : ℕ) (ds : List ℕ) → 10 ≤ n → Writes (n / 10) ds → Writes n (ds ++ ((48 + n % 10) ∷ []))
-more_digits n ds h w =
-    let last : n % 10 < 10 = omega arith in
-    record {
-      some = omega (arith, length-append ds ((48 + n % 10) ∷ []));
-      digits = rw (list_all-append is_digit ds ((48 + n % 10) ∷ []), w.digits, digit_byte (n % 10) last) refl;
-      value = digits_value-push ds (48 + n % 10) ∙ (let e : digits_value ds ≡ n / 10 = w.value in omega arith);
-    }
-
-decimal_writes : (n : ℕ) → n < 2 ^ 64 → Writes n (decimal n)
-decimal_writes n h = decimal_by_steps Writes one_digit more_digits n h
 
 digit_is_name_byte : (b : ℕ) → is_digit b ≡ true → is_name_byte b ≡ true
 digit_is_name_byte b h = grind (arith, nat_tests)

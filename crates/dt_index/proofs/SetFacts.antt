@@ -14,10 +14,10 @@ use Rattle.dt_index.specs.NameSets.{among, among_common, noted, with_first, with
 use Rattle.dt_index.specs.Resolve.{is_uneven, term_has, uneven_reduction}
 use Rattle.dt_index.specs.declared.form.Form.{Form}
 use Rattle.dt_index.specs.declared.occurrence_list.Occurrence.{Occurrence}
-use Rattle.dt_index.proofs.NameFacts.{bytes_eq-same, bytes_eq-swap}
+use Rattle.dt_base.proofs.Firsts.{bytes_eq-is, bytes_eq-swap}
 
 with_step : (names : List (List ℕ)) (x v : List ℕ) (b c : Bool) → among names x ≡ b → bytes_eq x v ≡ c → among (cond b names (names ++ x ∷ [])) v ≡ (among names v || c)
-with_step names x v true true p t = ap (λ (w : List ℕ). among names w) (sym (bytes_eq-same x v t)) ∙ p ∙ sym (or-true (among names v))
+with_step names x v true true p t = ap (λ (w : List ℕ). among names w) (sym (bytes_eq-is x v t)) ∙ p ∙ sym (or-true (among names v))
 with_step names x v true false p t = sym (or-false (among names v))
 with_step names x v false c p t = list_any-append (λ w. bytes_eq w v) names (x ∷ []) ∙ ap (λ (z : Bool). among names v || z) (or-false (bytes_eq x v) ∙ t)
 
@@ -26,7 +26,7 @@ pub among-with_name : (names : List (List ℕ)) (x v : List ℕ) → among (with
 among-with_name names x v = with_step names x v (among names x) (bytes_eq x v) refl refl
 
 chosen_step : (test : List ℕ → Bool) (names : List (List ℕ)) (x v : List ℕ) (b c : Bool) → test x ≡ b → bytes_eq x v ≡ c → (among names v || (c && b)) ≡ (among names v || (c && test v))
-chosen_step test names x v b true p t = ap (λ (z : Bool). among names v || z) (sym p ∙ ap (λ (w : List ℕ). test w) (bytes_eq-same x v t))
+chosen_step test names x v b true p t = ap (λ (z : Bool). among names v || z) (sym p ∙ ap (λ (w : List ℕ). test w) (bytes_eq-is x v t))
 chosen_step test names x v b false p t = refl
 
 and_true : (b : Bool) → b ≡ (b && true)
@@ -99,7 +99,7 @@ or_none None = refl
 or_none (Some n) = refl
 
 first_step : (es : List (List ℕ × ℕ)) (x : List ℕ) (n : ℕ) (v : List ℕ) (b c : Bool) → is_some (noted es x) ≡ b → bytes_eq x v ≡ c → noted (cond b es (es ++ (x, n) ∷ [])) v ≡ option_or (noted es v) (cond c (Some n) None)
-first_step es x n v true true p t = some_stays (noted es v) (Some n) (ap (λ (w : List ℕ). is_some (noted es w)) (sym (bytes_eq-same x v t)) ∙ p)
+first_step es x n v true true p t = some_stays (noted es v) (Some n) (ap (λ (w : List ℕ). is_some (noted es w)) (sym (bytes_eq-is x v t)) ∙ p)
 first_step es x n v true false p t = or_none (noted es v)
 first_step es x n v false c p t = noted-append es x n v ∙ ap (λ (z : Bool). option_or (noted es v) (cond z (Some n) None)) t
 

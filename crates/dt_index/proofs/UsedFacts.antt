@@ -21,8 +21,9 @@ use Rattle.dt_index.specs.declared.form.NamedFactor.{NamedFactor}
 use Rattle.dt_index.specs.declared.form.NamedFactor.TheVariants as named
 use Rattle.dt_index.specs.declared.form.NamedTerm.{NamedTerm}
 use Rattle.dt_index.specs.declared.occurrence_list.Occurrence.{Occurrence}
-use Rattle.dt_index.proofs.NameFacts.{has, place, has-distinct, has-at, length-below, get_or-below, distinct-differ, number-at, number_in-place, place-in-front, numbers-have}
-use Rattle.dt_index.proofs.OccurrenceFacts.{any_at, find_none, option_map-none}
+use Rattle.dt_base.proofs.Ranges.{length-below, get_or-below}
+use Rattle.dt_index.proofs.NameFacts.{has, place, has-distinct, has-at, distinct-differ, number-at, number_in-place, place-in-front, numbers-have}
+use Rattle.dt_index.proofs.OccurrenceFacts.{any_at, find_none, not_not, option_map-none}
 use Rattle.dt_index.proofs.LawfulStmt.{left_first}
 
 -- the names in accesses
@@ -88,10 +89,6 @@ factors_have w [] = refl
 factors_have w (named.Read a ∷ fs) = list_any-append (λ v. bytes_eq v w) a.vars (names_in (filter_map access_in fs)) ∙ ap (λ (b : Bool). has a.vars w || b) (factors_have w fs)
 factors_have w (named.Literal n ∷ fs) = factors_have w fs
 
-not_false : (b : Bool) → not b ≡ false → b ≡ true
-not_false true h = refl
-not_false false h = cc
-
 lacks_none : (b c : Bool) → b ≡ false → (not b && c) ≡ false → c ≡ false
 lacks_none true c t h = cc
 lacks_none false c t h = h
@@ -112,7 +109,7 @@ even_at tensors f r u t j k lj e l =
       | inr h ↦
           (let none_lacks : list_any (λ t. not (term_has name t)) f.terms ≡ false = lacks_none (has f.lhs.vars name) (list_any (λ t. not (term_has name t)) f.terms) h even in
           let this : not (term_has name (get_or f.terms j t)) ≡ false = any_at (λ t. not (term_has name t)) f.terms j t none_lacks lj in
-          let stands : term_has name t ≡ true = ap (λ (x : NamedTerm). term_has name x) e ∙ not_false (term_has name (get_or f.terms j t)) this in
+          let stands : term_has name t ≡ true = ap (λ (x : NamedTerm). term_has name x) e ∙ not_not (term_has name (get_or f.terms j t)) this in
           let there : has (names_in (term_accesses t)) name ≡ true = factors_have name t.factors ∙ stands in
           let number : list_any (nat_eq k) (term_vars (numbered_term tensors vs t)) ≡ true =
           subst (λ (ns : List ℕ). list_any (nat_eq k) ns ≡ true) (sym (term_numbered tensors vs t))

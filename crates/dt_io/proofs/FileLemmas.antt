@@ -8,22 +8,14 @@ use Rattle.std.proofs.lemmas.List.Quantifiers.{position-Some}
 use Rattle.std.proofs.lemmas.List.Sums.{fails_before_first}
 use Rattle.std.proofs.lemmas.Slice.Eq.{bytes_eq-Decides}
 use Rattle.std.specs.Prelude.{nat_lt}
+use Rattle.dt_base.proofs.Firsts.{bytes_eq-swap}
 use Rattle.dt_io.specs.declared.files.NamedFile.{NamedFile}
 use Rattle.dt_io.specs.Files.{Files, file_of, with_file}
 
--- the test of two texts is the same both ways
-either_way : (a b : List ℕ) → bytes_eq a b ≡ bytes_eq b a
-either_way a b = both (bytes_eq a b) (bytes_eq b a) (λ h. (bytes_eq-Decides b a).1 (sym ((bytes_eq-Decides a b).0 h))) (λ h. (bytes_eq-Decides a b).1 (sym ((bytes_eq-Decides b a).0 h)))
-  where
-    both : (s t : Bool) → (s ≡ true → t ≡ true) → (t ≡ true → s ≡ true) → s ≡ t
-    both true t f g = sym (f refl)
-    both false true f g = absurd (let e = g refl in cc)
-    both false false f g = refl
-
 -- a file with the name, in front of others
 in_front : (x : Option (List ℕ)) (name bytes other : List ℕ) (t : Bool) → bytes_eq name other ≡ t → (rest : Option (List ℕ)) → cond t (Some bytes) rest ≡ cond (bytes_eq other name) (Some bytes) (cond t x rest)
-in_front x name bytes other true e rest = ap (λ (s : Bool). cond s (Some bytes) x) (sym (either_way other name ∙ e))
-in_front x name bytes other false e rest = ap (λ (s : Bool). cond s (Some bytes) rest) (sym (either_way other name ∙ e))
+in_front x name bytes other true e rest = ap (λ (s : Bool). cond s (Some bytes) x) (sym (bytes_eq-swap other name ∙ e))
+in_front x name bytes other false e rest = ap (λ (s : Bool). cond s (Some bytes) rest) (sym (bytes_eq-swap other name ∙ e))
 
 -- a file of another name, in front of others
 behind : (name bytes other own : List ℕ) (x y z : Option (List ℕ)) → bytes_eq own name ≡ false → y ≡ cond (bytes_eq other name) (Some bytes) z
@@ -62,7 +54,7 @@ set_at (x ∷ xs) (suc k) name f d h here same before other =
 
 -- a file behind files of other names
 add_at : (files : List NamedFile) (f d : NamedFile) → ((j : ℕ) → j < length files → bytes_eq (get_or files j d).name f.name ≡ false) → (other : List ℕ) → file_of (files ++ f ∷ []) other ≡ with_file (file_of files) f.name f.bytes other
-add_at [] f d before other = cons_file f [] other ∙ ap (λ (s : Bool). cond s (Some f.bytes) None) (either_way f.name other)
+add_at [] f d before other = cons_file f [] other ∙ ap (λ (s : Bool). cond s (Some f.bytes) None) (bytes_eq-swap f.name other)
 add_at (x ∷ xs) f d before other =
     cons_file x (xs ++ f ∷ []) other
     ∙ behind f.name f.bytes other x.name (Some x.bytes) (file_of (xs ++ f ∷ []) other) (file_of xs other) (before 0 (omega arith)) (add_at xs f d (λ j l. before (suc j) (omega arith)) other)

@@ -5,6 +5,7 @@ pub mod Lexicographic
 pub mod PositionFacts
 pub mod RingLaws
 pub mod ShapeFacts
+pub mod StepFacts
 pub mod StmtFacts
 pub mod TermSums
 pub mod WholeFacts

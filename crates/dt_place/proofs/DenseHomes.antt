@@ -5,7 +5,7 @@ use Rattle.std.specs.List.{AllByRecursion, count_by, filter, filter_map, flat_ma
 use Rattle.std.proofs.lemmas.Bool.{and_from, and_left, and_right, le-leb, lt-leb, lt-ltb, le-ltb}
 use Rattle.std.proofs.lemmas.List.{append-nil, ext_get_or, get_or-map, length-map}
 use Rattle.std.proofs.lemmas.List.Concat.{flat_map-append}
-use Rattle.std.proofs.lemmas.List.Elements.{filter-append, recursion_from_All}
+use Rattle.std.proofs.lemmas.List.Elements.{recursion_from_All}
 use Rattle.std.proofs.lemmas.List.Sums.{sum_by-cons}
 use Rattle.dt_base.specs.Ranges.{assignments, below}
 use Rattle.dt_base.specs.Rows.{product, row_major}
@@ -18,6 +18,7 @@ use Rattle.dt_place.specs.Homes.{cut_of, inside_of, lies_in, piece_of, side_of, 
 use Rattle.dt_place.specs.Blocks.{block_size}
 use Rattle.dt_place.specs.declared.placements.Symbol.{Symbol}
 use Rattle.dt_place.specs.declared.sides.Side.{Side}
+use Rattle.dt_base.proofs.Filters.{filter-always, filter-flat_map, filter-map, list_all-always, mapped-cond}
 use Rattle.dt_base.proofs.Assignments.{length-assignments, row_major-assignment}
 use Rattle.dt_base.proofs.Ranges.{get_or-below, length-below}
 use Rattle.dt_runs.proofs.BelowSets.{filter_below-small}
@@ -36,10 +37,6 @@ highs sides = map (λ s. s.to) sides
 abbrev lies : Side → ℕ → Bool
 lies s i = nat_le s.from i && nat_lt i s.to
 
-mapped-cond : {A B : Type 0} (f : A → B) (b : Bool) (x : A) (xs : List A) → cond b (f x ∷ map f xs) (map f xs) ≡ map f (cond b (x ∷ xs) xs)
-mapped-cond f true x xs = refl
-mapped-cond f false x xs = refl
-
 row-inside : (s : Side) (ss : List Side) (i : ℕ) (cs : List (List ℕ)) → lies s i ≡ true → filter (lies_in (s ∷ ss)) (map (λ a. i ∷ a) cs) ≡ map (λ a. i ∷ a) (filter (lies_in ss) cs)
 row-inside s ss i [] h = refl
 row-inside s ss i (c ∷ cs) h =
@@ -54,10 +51,6 @@ row-outside s ss i (c ∷ cs) h =
     let here : lies_in (s ∷ ss) (i ∷ c) ≡ false = and_left (lies s i) (lies_in ss c) h in
     ap (λ (b : Bool). cond b ((i ∷ c) ∷ filter (lies_in (s ∷ ss)) (map (λ a. i ∷ a) cs)) (filter (lies_in (s ∷ ss)) (map (λ a. i ∷ a) cs))) here
     ∙ row-outside s ss i cs h
-
-filter-flat_map : {A X : Type 0} (p : X → Bool) (f : A → List X) (xs : List A) → filter p (flat_map f xs) ≡ flat_map (λ x. filter p (f x)) xs
-filter-flat_map p f [] = refl
-filter-flat_map p f (x ∷ xs) = filter-append p (f x) (flat_map f xs) ∙ ap (λ l. filter p (f x) ++ l) (filter-flat_map p f xs)
 
 flat-none : {X : Type 0} (f : ℕ → List X) (a n : ℕ) → ((i : ℕ) → a ≤ i → i < a + n → f i ≡ []) → flat_map f (ascending a n) ≡ []
 flat-none f a zero h = refl
@@ -108,10 +101,6 @@ assignments-mapped ns =
     (λ i h. let within : i < product ns = omega (arith, length-assignments ns) in
     sym (get_or-map (λ k. get_or (assignments ns) k []) numbers i 0 [] (omega (arith, length-below (product ns))) ∙ ap (λ (k : ℕ). get_or (assignments ns) k []) (get_or-below (product ns) i 0 within)))
 
-filter-map : {A B : Type 0} (p : B → Bool) (f : A → B) (xs : List A) → filter p (map f xs) ≡ map f (filter (λ x. p (f x)) xs)
-filter-map p f [] = refl
-filter-map p f (x ∷ xs) = ap (λ l. cond (p (f x)) (f x ∷ l) l) (filter-map p f xs) ∙ mapped-cond f (p (f x)) x (filter (λ y. p (f y)) xs)
-
 numbers-back : (ns : List ℕ) (ks : List ℕ) → AllByRecursion (λ k. k < product ns) ks → filter_map (row_major ns) (map (λ k. get_or (assignments ns) k []) ks) ≡ ks
 numbers-back ns [] h = refl
 numbers-back ns (k ∷ ks) h = rw (row_major-assignment ns k h.0) (ap (λ (l : List ℕ). k ∷ l) (numbers-back ns ks h.1))
@@ -131,19 +120,11 @@ no_level (true ∷ bs) h q = absurd (omega (arith, sum_by-cons (λ b. cond b 1 0
 no_level (false ∷ bs) h zero = refl
 no_level (false ∷ bs) h (suc q) = no_level bs (omega (arith, sum_by-cons (λ b. cond b 1 0) false bs)) q
 
-all-pass : {A : Type 0} (p : A → Bool) (xs : List A) → ((x : A) → p x ≡ true) → list_all p xs ≡ true
-all-pass p [] h = refl
-all-pass p (x ∷ xs) h = and_from (p x) (list_all p xs) (h x) (all-pass p xs h)
-
-all-kept : {A : Type 0} (p : A → Bool) (xs : List A) → ((x : A) → p x ≡ true) → filter p xs ≡ xs
-all-kept p [] h = refl
-all-kept p (x ∷ xs) h = rw (h x) (ap (λ l. x ∷ l) (all-kept p xs h))
-
 pub dense-coords : (t : StoredTensor) → IsStored t → cost_of t ≡ 1 → t.coords ≡ assignments t.extents
 dense-coords t stored cost =
     let none : count_by (λ b. b) t.compressed ≡ 0 = omega arith in
-    stored.stored ∙ all-kept (is_followed t.compressed t.coords) (assignments t.extents)
-    (λ c. all-pass (λ q. not (get_or t.compressed q false) || list_any (begins (take (q + 1) c)) t.coords) (below (length c))
+    stored.stored ∙ filter-always (is_followed t.compressed t.coords) (assignments t.extents)
+    (λ c. list_all-always (λ q. not (get_or t.compressed q false) || list_any (begins (take (q + 1) c)) t.coords) (below (length c))
     (λ q. ap (λ (b : Bool). not b || list_any (begins (take (q + 1) c)) t.coords) (no_level t.compressed none q)))
 
 pub dense-inside : (t : StoredTensor) (ss : List Side) → IsStored t → cost_of t ≡ 1 → AreCorners t.extents (lows ss) (highs ss) → box_numbers t.extents (lows ss) (highs ss) ≡ inside_of ss t

@@ -12,7 +12,7 @@ use Rattle.dt_place.specs.declared.placements.Placement.{Placement}
 use Rattle.dt_place.specs.declared.placements.Placement.TheVariants.{FirstNode, ByNames}
 use Rattle.dt_place.specs.declared.placements.Symbol.{Symbol}
 use Rattle.dt_base.proofs.Ranges.{filter_below-every}
-use Rattle.dt_place.proofs.PositionSets.{filter-never}
+use Rattle.dt_base.proofs.Filters.{filter-never}
 
 -- node 0 is home to all positions
 pub first_node-all : (placement : Placement) (m : MachineView) (t : StoredTensor) (node count : ℕ) → placement ≡ FirstNode → node ≡ 0 → count ≡ length t.coords

@@ -11,11 +11,6 @@ use Rattle.dt_runs.proofs.BelowSets.{Ascends-below, contains-below, range_ascend
 use Rattle.dt_runs.proofs.SetLemmas.{contains-range, filter_by_contains}
 use Rattle.dt_text.proofs.Places.{list_any-place}
 
--- no number passes
-pub filter-never : (p : ℕ → Bool) (xs : List ℕ) → ((k : ℕ) → p k ≡ false) → filter p xs ≡ []
-filter-never p [] h = refl
-filter-never p (x ∷ xs) h = rw (h x) (filter-never p xs h)
-
 single_rows : (n a k : ℕ) → a + k ≤ n → filter_map (row_major (n ∷ [])) (flat_map (λ i. map (λ c. i ∷ c) ([] ∷ [])) (ascending a k)) ≡ ascending a k
 single_rows n a zero h = refl
 single_rows n a (suc k) h =

@@ -3,7 +3,7 @@ use Rattle.std.proofs.Common.{◌≡◌, ℕ, zero, suc, ◌+◌, ◌-◌, ◌*�
 use Rattle.std.specs.List.{flat_map, filter_map, cons_option, All}
 use Rattle.std.specs.Option.{option_map}
 use Rattle.std.proofs.lemmas.Bool.Decides.{leb_tells}
-use Rattle.std.proofs.lemmas.Bool.{lt-ltb, leb-false}
+use Rattle.std.proofs.lemmas.Bool.{lt-ltb, leb-false, or_parts}
 use Rattle.std.proofs.lemmas.List.{append-nil, flat_map_more}
 use Rattle.std.proofs.lemmas.List.Elements.{filter_map-append, All-weaker, All-append}
 use Rattle.std.proofs.Math.Nat.{mul-le-mul_left}
@@ -107,16 +107,13 @@ inner_box-row outer (n ∷ []) (l ∷ []) (h ∷ []) corners one =
 inner_box-row outer (n ∷ []) (l ∷ []) (h ∷ k ∷ ks) corners one = absurd corners.2
 inner_box-row outer (n ∷ []) (l ∷ m ∷ ls) (h ∷ hs) corners one = absurd corners.2
 
-or_false : (a b : Bool) → (a || b) ≡ false → (a ≡ false) × (b ≡ false)
-or_false a b h = (grind arith, grind arith)
-
 -- where no side is empty, no extent is 0
 positive_product : (ns los his : List ℕ) → AreCorners ns los his → has_empty_side los his ≡ false → 1 ≤ product ns
 positive_product [] los his corners filled = omega arith
 positive_product (n ∷ ns) [] his corners filled = absurd corners
 positive_product (n ∷ ns) (l ∷ ls) [] corners filled = absurd corners
 positive_product (n ∷ ns) (l ∷ ls) (h ∷ hs) corners filled =
-    let both = or_false (nat_le h l) (has_empty_side ls hs) filled in
+    let both = or_parts (nat_le h l) (has_empty_side ls hs) filled in
     let side : l < h = leb-false h l both.0 in
     let rest : 1 ≤ product ns = positive_product ns ls hs corners.2 both.1 in
     omega (arith, mul-le-mul_left n rest)
@@ -135,7 +132,7 @@ first_side [] los his corners filled some = absurd (omega arith)
 first_side (n ∷ ns) [] his corners filled some = absurd corners
 first_side (n ∷ ns) (l ∷ ls) [] corners filled some = absurd corners
 first_side (n ∷ ns) (l ∷ ls) (h ∷ hs) corners filled some =
-    let both = or_false (nat_le h l) (has_empty_side ls hs) filled in
+    let both = or_parts (nat_le h l) (has_empty_side ls hs) filled in
     record {
       filled = leb-false h l both.0;
       inside = corners.1;

@@ -205,7 +205,8 @@ pub record HaveCommon (left right left_rest right_rest : List Interval) : Type 0
   pub right_apart : IsApart 0 right_rest
   pub same : (x : ℕ) → (covers left x && covers right x) ≡ (covers left_rest x && covers right_rest x)
 
-IsApart-lower : (low high : ℕ) (is : List Interval) → low ≤ high → IsApart high is → IsApart low is
+-- intervals that lie apart from a bound do so from a lower one
+pub IsApart-lower : (low high : ℕ) (is : List Interval) → low ≤ high → IsApart high is → IsApart low is
 IsApart-lower low high [] le a = tt
 IsApart-lower low high (i ∷ is) le a = (omega arith, a.1, a.2)
 

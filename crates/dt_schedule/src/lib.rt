@@ -16,8 +16,6 @@ mod running;
 mod site;
 mod splits;
 mod tensor_names;
-#[cfg(test)]
-mod tests;
 mod two_loops;
 
 pub use command_words::{CommandWord, command_word, is_command};

@@ -1,290 +1,213 @@
 //! Command lines in jobs, by hand.
 
-use dt_base::{Name, NoMemory};
+use dt_base::{Bytes, NoMemory};
 use dt_job::{Job, JobEnd, read_job};
-use dt_model::Cause;
-use dt_nest::Nest;
+use dt_nest::put_nest;
 use std::alloc::Global;
 use std::test::Fail;
 
-/// A cause, with the name that it tells, filled up by blanks.
-#[derive(Clone, Copy, Debug, PartialEq, Eq)]
-enum Fault {
-    BadByte(u32),
-    UnknownWord,
-    OutOfPlace,
-    Syntax,
-    BadNumber,
-    Unfinished,
-    UnknownTensor([u8; 2]),
-    UnknownLoop([u8; 2]),
-    Distributed([u8; 2]),
-    Communicated([u8; 2]),
-    NotOuter([u8; 2]),
-    WrongCount,
-    WrongExtent([u8; 2], u32, u32),
-    Other,
-}
+/// A machine, the lines behind the statement `A(i,j) = B(i,k) * B(k,j)` on matrices of 2 by 2, which is line 8 of the job, and
+/// what comes of them: the nest of each statement, or the line that has a cause with that cause. Lines end in a semicolon; a row
+/// that ends in one has no last line `end`.
+const ROWS: &str = "\
+2x3|splits i a b 2|9 UnknownWord
+2x3|precompute z y|9 UnknownWord
+2x3|split|9 Syntax
+2x3|split z a b|9 Syntax
+2x3|split z a b 2 2|9 Syntax
+2x3|split 1 a b 2|9 Syntax
+2x3|split z 2a b 2|9 Syntax
+2x3|split z a 9 18446744073709551616|9 Syntax
+2x3|split z a b x|9 Syntax
+2x3|split abcdefghijklmnopq a b 2|9 Syntax
+2x3|split z a b 18446744073709551616|9 BadNumber
+2x3|split z a b 000000000000000000001|9 BadNumber
+2x3|split z i b 0|9 UnknownLoop z
+2x3|split z i b 4294967296|9 UnknownLoop z
+2x3|split i j b 0|9 BadNumber
+2x3|split i j b 65537|9 BadNumber
+2x3|split i a b 4294967297|9 BadNumber
+2x3|split i a b 18446744073709551615|9 BadNumber
+2x3|split i j b 65536|9 NameTaken j
+2x3|split i a a 2|9 NameTaken a
+2x3| split\ti  a b 00002 |[A,B] a:1 b:2 j:2 k:2 leaf
+2x3|divide z a b|9 Syntax
+2x3|divide z a b 99999999999999999999|9 BadNumber
+2x3|divide z i b 0|9 UnknownLoop z
+2x3|divide i k b 0|9 BadNumber
+2x3|divide i a k 2|9 NameTaken k
+2x3|reorder|9 Syntax
+2x3|reorder z|9 Syntax
+2x3|reorder z 2|9 Syntax
+2x3|reorder i z y|9 UnknownLoop z
+2x3|reorder i i z|9 UnknownLoop z
+2x3|reorder i k i|9 BadLoops
+2x3|reorder i k|9 NotOneChain
+2x3|collapse z y|9 Syntax
+2x3|collapse z y f g|9 Syntax
+2x3|collapse z y 4|9 Syntax
+2x3|collapse z y k|9 UnknownLoop z
+2x3|collapse i y k|9 UnknownLoop y
+2x3|collapse i k k|9 NameTaken k
+2x3|collapse i k f|9 NotAdjacent
+2x3|collapse i i f|9 NotAdjacent
+2x3|rotate|9 Syntax
+2x3|rotate z|9 Syntax
+2x3|rotate z r|9 Syntax
+2x3|rotate z y 7|9 Syntax
+2x3|rotate z y r|9 UnknownLoop z
+2x3|rotate k y z r|9 UnknownLoop y
+2x3|rotate i k j|9 NameTaken j
+2x3|rotate i k r|9 NotOuter k
+2x3|rotate k i k r|9 NotOuter k
+2x3|rotate j j r|9 NotOuter j
+2x3|rotate k i r|[A,B] i:2 j:2 r:2 leaf
+2x3|distribute|9 Syntax
+2x3|distribute 2|9 Syntax
+2x3|distribute z|9 UnknownLoop z
+2x3|distribute i|9 WrongCount
+2x3|distribute i j k|9 WrongCount
+2x3|distribute j i|9 NotOutermost j
+2x3|distribute i i|9 NotOutermost i
+2x3|distribute i k|9 NotOutermost k
+2x3|distribute i j|9 WrongExtent j 2 3
+2x3|communicate|9 Syntax
+2x3|communicate z|9 Syntax
+2x3|communicate z 2|9 Syntax
+2x3|communicate 2 Z|9 Syntax
+2x3|communicate z Z b-|9 Syntax
+2x3|communicate z Z|9 UnknownLoop z
+2x3|communicate i Z|9 UnknownTensor Z
+2x3|communicate i i|9 UnknownTensor i
+2x3|communicate i C|9 UnknownTensor C
+2x3|communicate i C Z|9 UnknownTensor C
+2x3|communicate i A A C|9 UnknownTensor C
+2x3|communicate i A A|9 Communicated A
+2x3| communicate  k\tA|[B] i:2 j:2 k:2[A] leaf
+2|split i io ii 2;split j jo ji 2;split i x y 2;split k ko ki 1;rotate ki ii ki|11 UnknownLoop i
+2|split i io ii 2;reorder j i|10 UnknownLoop i
+2|split i io ii 2;split j i x 2|10 NameTaken i
+2|distribute i;reorder j i|10 Distributed i
+2|distribute i;distribute i j|10 WrongCount
+2|distribute i;distribute j|10 Distributed j
+2|distribute i;split i a j 2|10 NameTaken j
+2|distribute i;divide i a b 2|10 Distributed i
+2|distribute i;reorder i k|10 NotOneChain
+2|distribute i;collapse i j f|10 Distributed i
+2|reorder j i;distribute j;rotate j i r|11 NotOuter i
+2|distribute i;communicate i A;communicate j A|11 Communicated A
+2|communicate i A;split i a b 2|10 Communicated i
+2|split i a b 2;communicate i A|10 UnknownLoop i
+2|distribute i;split k a b 1;split b c d 1;split d e f 1;split f g h 1;split h l m 1;split m n o 1;split o p q 1;split q r s 1;\
+split s t u 1;split u v w 1;split w x y 1;split y z aa 1;split aa ab ac 1;split i ad ae 1|23 TooManyLoops
+4|divide i io ii 3;distribute io|10 WrongExtent io 3 4
+2x2|split i io ii 3|[A,B] io:1 ii:3 j:2 k:2 leaf
+2x2|divide j jo ji 3|[A,B] i:2 jo:3 ji:1 k:2 leaf
+2x2|reorder k i j|[A,B] k:2 i:2 j:2 leaf
+2x2|reorder k j|[A,B] i:2 k:2 j:2 leaf
+2x2|collapse i j f|[A,B] f:4 k:2 leaf
+2x2|rotate k i j r|[A,B] i:2 j:2 r:2 leaf
+2x2|distribute i j|i:2! j:2![A,B] k:2 leaf
+2x2|communicate j A;communicate k B|i:2 j:2[A] k:2[B] leaf
+2|divide i io ii 2; reorder io j ii;distribute io\r|io:2![A,B] j:2 ii:1 k:2 leaf
+2|split i io ii 1;reorder j io ii;collapse ii k g|[A,B] j:2 io:2 g:2 leaf
+2|split i io ii 1;reorder j io ii;collapse ii k g;split i a b 2|12 UnknownLoop i
+1|split i io ii 2 \u{80}|9 BadByte 17
+1|end;spilt i io ii 2|10 UnknownWord
+1|split i io ii 2;print A|10 OutOfPlace
+1|end;split|10 OutOfPlace
+1|end;divide|10 OutOfPlace
+1|end;reorder|10 OutOfPlace
+1|end;collapse|10 OutOfPlace
+1|end;rotate|10 OutOfPlace
+1|end;distribute|10 OutOfPlace
+1|end;communicate|10 OutOfPlace
+1|end;stmt C(i,j) = A(i,j);split k ko ki 2|11 UnknownLoop k
+1|end;stmt C(p,q) = A(q,p);split p i j 1|[A,B] i:2 j:2 k:2 leaf; [A,C] i:2 j:1 q:2 leaf
+1|# the rows;\tsplit  i io\tii 3 \r;\r;collapse io ii f;|13 Unfinished
+1|# the rows;\tsplit  i io\tii 3 \r;\r;collapse io ii f|[A,B] f:3 j:2 k:2 leaf";
 
-fn named(cause: &Cause) -> Fault {
-    match cause {
-        Cause::BadByte(place) => Fault::BadByte(*place),
-        Cause::UnknownWord => Fault::UnknownWord,
-        Cause::OutOfPlace => Fault::OutOfPlace,
-        Cause::Syntax => Fault::Syntax,
-        Cause::BadNumber => Fault::BadNumber,
-        Cause::Unfinished => Fault::Unfinished,
-        Cause::UnknownTensor(name) => Fault::UnknownTensor(letters(name)),
-        Cause::UnknownLoop(name) => Fault::UnknownLoop(letters(name)),
-        Cause::Distributed(name) => Fault::Distributed(letters(name)),
-        Cause::Communicated(name) => Fault::Communicated(letters(name)),
-        Cause::NotOuter(name) => Fault::NotOuter(letters(name)),
-        Cause::WrongCount => Fault::WrongCount,
-        Cause::WrongExtent(name, extent, dimension) => {
-            Fault::WrongExtent(letters(name), *extent, *dimension)
-        }
-        _ => Fault::Other,
+/// The text of a job: its lines up to the statement, the lines of a row, and `end`.
+fn job_text(alloc: Global, machine: &str, lines: &str) -> Result<Bytes, NoMemory> {
+    let mut text = Bytes::new(alloc);
+    text.append(b"distal 1\nmachine ")?;
+    text.append(machine.as_bytes())?;
+    text.append(b"\ntensor A 2x2\ntensor B 2x2\ntensor C 2x2\n")?;
+    text.append(b"data B 1 2 3 4\ndata C 5 6 7 8\nstmt A(i,j) = B(i,k) * B(k,j)\n")?;
+    let (lines, ends) = match lines.strip_suffix(";") {
+        Some(open) => (open, false),
+        None => (lines, true),
+    };
+    for line in lines.split(';') {
+        text.append(line.as_bytes())?;
+        text.append(b"\n")?;
     }
-}
-
-fn letters(name: &Name) -> [u8; 2] {
-    match name.as_slice() {
-        [first] => [*first, b' '],
-        [first, second] => [*first, *second],
-        _ => [b' ', b' '],
+    if ends {
+        text.append(b"end\n")?;
     }
-}
-
-/// The line that has a cause, and the cause.
-fn refusal(end: &JobEnd) -> Option<(u32, Fault)> {
-    match end {
-        JobEnd::Refused(line, cause) => Some((*line, named(cause))),
-        JobEnd::NoMemory => None,
-    }
-}
-
-/// Seven lines that declare three matrices of 2 by 2 on this machine, and then these lines.
-fn on_matrices(alloc: Global, machine: &[u8], lines: &[u8]) -> Result<Vec<u8>, NoMemory> {
-    let mut text = Vec::new(alloc);
-    text.extend_from_slice(b"distal 1\nmachine ")?;
-    text.extend_from_slice(machine)?;
-    text.extend_from_slice(b"\ntensor A 2x2\ntensor B 2x2\ntensor C 2x2\n")?;
-    text.extend_from_slice(b"data B 1 2 3 4\ndata C 5 6 7 8\n")?;
-    text.extend_from_slice(lines)?;
     Ok(text)
 }
 
-/// The product of two matrices, which line 8 opens, and then these lines.
-fn product(alloc: Global, machine: &[u8], lines: &[u8]) -> Result<Vec<u8>, NoMemory> {
-    let mut text = on_matrices(alloc, machine, b"stmt A(i,j) = B(i,k) * C(k,j)\n")?;
-    text.extend_from_slice(lines)?;
+/// The nests of the statements, one after the other.
+fn nests_of(alloc: Global, job: &Job) -> Result<Bytes, NoMemory> {
+    let mut text = Bytes::new(alloc);
+    for (at, part) in job.parts.as_slice().iter().enumerate() {
+        if at > 0 {
+            text.append(b"; ")?;
+        }
+        put_nest(alloc, &mut text, &part.sched)?;
+    }
     Ok(text)
 }
 
-#[test]
-fn the_first_command_with_a_cause_is_told(rt: HostRuntime) -> Result<(), Fail> {
-    let cases: [(&[u8], &[u8], u32, Fault); 17] = [
-        (
-            b"1",
-            b"split i io ii 2\nsplit j jo ji 2\nsplit i x y 2\nsplit k ko ki 1\nrotate ki ii ki\n",
-            11,
-            Fault::UnknownLoop(*b"i "),
-        ),
-        (b"1", b"rotate i k r\n", 9, Fault::NotOuter(*b"k ")),
-        (
-            b"2",
-            b"distribute i\nreorder j i\n",
-            10,
-            Fault::Distributed(*b"i "),
-        ),
-        (b"2x2", b"distribute i\n", 9, Fault::WrongCount),
-        (
-            b"2x3",
-            b"distribute i j\n",
-            9,
-            Fault::WrongExtent(*b"j ", 2, 3),
-        ),
-        (
-            b"1",
-            b"communicate k B D\n",
-            9,
-            Fault::UnknownTensor(*b"D "),
-        ),
-        (
-            b"1",
-            b"communicate k B C\ncommunicate i B\n",
-            10,
-            Fault::Communicated(*b"B "),
-        ),
-        (b"1", b"split i io ii\n", 9, Fault::Syntax),
-        (
-            b"1",
-            b"split i io ii 99999999999999999999\n",
-            9,
-            Fault::BadNumber,
-        ),
-        (b"1", b"split i io ii 2 \x80\n", 9, Fault::BadByte(17)),
-        (b"1", b"spilt i io ii 2\n", 9, Fault::UnknownWord),
-        (b"1", b"end\nspilt i io ii 2\n", 10, Fault::UnknownWord),
-        (b"1", b"split i io ii 2\nprint A\n", 10, Fault::OutOfPlace),
-        (b"1", b"end\nsplit i io ii 2\n", 10, Fault::OutOfPlace),
-        (b"1", b"end\ncommunicate\n", 10, Fault::OutOfPlace),
-        (
-            b"1",
-            b"end\nstmt B(i,j) = A(i,j)\nsplit k ko ki 2\n",
-            11,
-            Fault::UnknownLoop(*b"k "),
-        ),
-        // A blank, a comment and a CR end no statement and change no line.
-        (
-            b"1",
-            b"# the rows\n\tsplit  i io\tii 3 \r\n\r\ncollapse io ii f\n",
-            13,
-            Fault::Unfinished,
-        ),
-    ];
-    for (machine, lines, line, cause) in cases {
-        let text = product(rt.alloc(), machine, lines)?;
-        assert!(rt; text.len() < 1000);
-        let end = read_job(rt.alloc(), text.as_slice()).err().ok_or("a job")?;
-        assert_eq!(rt; refusal(&end), Some((line, cause)));
+/// What comes of a job's text.
+fn answer(alloc: Global, text: &[u8]) -> Result<Bytes, Fail> {
+    if text.len() > 10_000 {
+        return Err("too long")?;
     }
-    Ok(())
-}
-
-#[test]
-fn a_command_needs_an_open_statement(rt: HostRuntime) -> Result<(), Fail> {
-    let commands: [&[u8]; 7] = [
-        b"split\n",
-        b"divide\n",
-        b"reorder\n",
-        b"collapse\n",
-        b"rotate\n",
-        b"distribute\n",
-        b"communicate\n",
-    ];
-    for command in commands {
-        let text = on_matrices(rt.alloc(), b"1", command)?;
-        assert!(rt; text.len() < 1000);
-        let end = read_job(rt.alloc(), text.as_slice()).err().ok_or("a job")?;
-        assert_eq!(rt; refusal(&end), Some((8, Fault::OutOfPlace)));
-    }
-    Ok(())
-}
-
-#[test]
-fn a_distributed_loop_has_the_machines_extent(rt: HostRuntime) -> Result<(), Fail> {
-    let mut text = Vec::new(rt.alloc());
-    text.extend_from_slice(b"distal 1\nmachine 4\ntensor a 5\ntensor b 5\n")?;
-    text.extend_from_slice(b"place a x -> x\nplace b x -> x\ndata b 1 2 3 4 5\n")?;
-    text.extend_from_slice(b"stmt a(i) = b(i) + 10\ndivide i io ii 3\n")?;
-    text.extend_from_slice(b"distribute io\nend\nprint a\n")?;
-    assert!(rt; text.len() < 1000);
-    let end = read_job(rt.alloc(), text.as_slice()).err().ok_or("a job")?;
-    assert_eq!(rt; refusal(&end), Some((10, Fault::WrongExtent(*b"io", 3, 4))));
-    Ok(())
-}
-
-fn is_named(names: &[Name], v: u32, name: &[u8]) -> bool {
-    match names.get(v as usize) {
-        Some(other) => other.is(name),
-        None => false,
-    }
-}
-
-/// Whether a nest has these loops, with these extents, around one leaf.
-fn has_loops(nest: &Nest, names: &[Name], wanted: &[(&[u8], u32)]) -> bool {
-    match nest {
-        Nest::Loop {
-            var,
-            extent,
-            body,
-            ..
-        } => match wanted.split_first() {
-            None => false,
-            Some((first, rest)) => {
-                *extent == first.1 && is_named(names, *var, first.0) && has_loops(body, names, rest)
-            }
-        },
-        Nest::Pre { .. } => false,
-        Nest::Leaf { .. } => wanted.is_empty(),
-    }
-}
-
-/// Whether the statement with this number has this text, and its part these loops.
-fn is_scheduled(job: &Job, at: usize, head: &[u8], loops: &[(&[u8], u32)]) -> bool {
-    match (job.heads.as_slice().get(at), job.parts.as_slice().get(at)) {
-        (Some(text), Some(part)) => {
-            let parts = part.sched.parts();
-            text.as_slice() == head
-                && part.segment == 0
-                && has_loops(&parts.nest, parts.names.as_slice(), loops)
+    match read_job(alloc, text) {
+        Ok(job) => Ok(nests_of(alloc, &job)?),
+        Err(JobEnd::Refused(line, cause)) => {
+            let mut said = Bytes::new(alloc);
+            said.append_number(line)?;
+            said.append(b" ")?;
+            said.append(cause.text().as_slice())?;
+            Ok(said)
         }
-        _ => false,
+        Err(JobEnd::NoMemory) => Err("no memory")?,
     }
 }
 
 #[test]
-fn a_job_has_the_schedules_of_its_statements(rt: HostRuntime) -> Result<(), Fail> {
-    let cases: [(&[u8], &[(&[u8], u32)]); 4] = [
-        (b"end\n", &[(b"i", 2), (b"j", 2), (b"k", 2)]),
-        (
-            b"split i io ii 3\nend\n",
-            &[(b"io", 1), (b"ii", 3), (b"j", 2), (b"k", 2)],
-        ),
-        (b"collapse i j f\nend\nprint A\n", &[(b"f", 4), (b"k", 2)]),
-        (
-            b"divide i io ii 2\n reorder io j ii\ndistribute io\r\nend\n",
-            &[(b"io", 2), (b"j", 2), (b"ii", 1), (b"k", 2)],
-        ),
-    ];
-    for (lines, loops) in cases {
-        let text = product(rt.alloc(), b"2", lines)?;
-        assert!(rt; text.len() < 1000);
-        let job = read_job(rt.alloc(), text.as_slice())?;
-        assert_eq!(rt; job.parts.as_slice().len(), 1);
-        assert!(rt; is_scheduled(&job, 0, b"A(i,j) = B(i,k) * C(k,j)", loops));
+fn the_first_command_with_a_cause_is_told_and_others_make_their_nests(
+    rt: HostRuntime,
+) -> Result<(), Fail> {
+    for row in ROWS.lines() {
+        let mut parts = row.split('|');
+        let machine = parts.next().unwrap_or("");
+        let lines = parts.next().unwrap_or("");
+        let wanted = parts.next().unwrap_or("");
+        let text = job_text(rt.alloc(), machine, lines)?;
+        let said = answer(rt.alloc(), text.as_slice())?;
+        assert!(rt; said.as_slice() == wanted.as_bytes(), "at {row}");
     }
     Ok(())
 }
 
-#[test]
-fn a_job_knows_where_its_tensors_are_moved(rt: HostRuntime) -> Result<(), Fail> {
-    let lines = b"communicate j A\ncommunicate k C B\nend\n";
-    let text = product(rt.alloc(), b"1", lines)?;
-    assert!(rt; text.len() < 1000);
-    let job = read_job(rt.alloc(), text.as_slice())?;
-    assert_eq!(rt; job.parts.as_slice().len(), 1);
-    for part in job.parts.as_slice() {
-        let moved = part.sched.parts().moved.as_slice();
-        assert_eq!(rt; moved.len(), 3);
-        for (one, wanted) in moved.iter().zip(&[(0u32, 1u32), (2, 2), (1, 2)]) {
-            assert_eq!(rt; (one.tensor, one.at), *wanted);
-        }
-    }
-    Ok(())
-}
+/// Two statements over matrices of 2 by 2.
+const TWO: &[u8] =
+    b"distal 1\nmachine 1\ntensor A 2x2\ntensor B 2x2\ntensor C 2x2\nstmt A( i,j )+= -B(i,j)*03\nend\nstmt C(p,q)=A(q,p)\nend\n";
 
 #[test]
-fn each_statement_has_its_own_schedule(rt: HostRuntime) -> Result<(), Fail> {
-    let lines =
-        b"stmt A( i,j )+= -B(i,j)*03\nreorder j i\nend\nstmt C(p,q)=A(q,p)\nsplit p i j 1\nend\n";
-    let text = on_matrices(rt.alloc(), b"1", lines)?;
-    assert!(rt; text.len() < 1000);
-    let job = read_job(rt.alloc(), text.as_slice())?;
-    assert_eq!(rt; job.heads.as_slice().len(), 2);
-    assert!(rt; is_scheduled(&job, 0, b"A(i,j) += - B(i,j) * 3", &[(b"j", 2), (b"i", 2)]));
+fn statements_keep_their_heads(rt: HostRuntime) -> Result<(), Fail> {
+    let job = read_job(rt.alloc(), TWO)?;
+    let mut said = Bytes::new(rt.alloc());
+    for (head, part) in job.heads.as_slice().iter().zip(job.parts.as_slice()) {
+        said.append(head.as_slice())?;
+        said.append(if part.adds { b" adds; " } else { b" sets; " })?;
+    }
     assert!(rt;
-        is_scheduled(
-            &job,
-            1,
-            b"C(p,q) = A(q,p)",
-            &[(b"i", 2), (b"j", 1), (b"q", 2)]
-        )
+        said.as_slice() == b"A(i,j) += - B(i,j) * 3 adds; C(p,q) = A(q,p) sets; ".as_slice()
     );
-    let adds = [true, false];
-    for (part, wanted) in job.parts.as_slice().iter().zip(&adds) {
-        assert_eq!(rt; part.adds, *wanted);
-    }
     Ok(())
 }

@@ -1,3 +1,4 @@
+pub mod Decimals
 pub mod LineLemmas
 pub mod LineWords
 pub mod NumberLemmas

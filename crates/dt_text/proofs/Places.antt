@@ -13,10 +13,12 @@ one_more n m = grind (arith, nat_tests)
 length-cons : {A : Type 0} (x : A) (xs : List A) → length (x ∷ xs) ≡ 1 + length xs
 length-cons x xs = omega arith
 
-place-here : {A : Type 0} (p : A → Bool) (x : A) (xs : List A) → p x ≡ true → position_or_len p (x ∷ xs) ≡ 0
+-- the first element passes
+pub place-here : {A : Type 0} (p : A → Bool) (x : A) (xs : List A) → p x ≡ true → position_or_len p (x ∷ xs) ≡ 0
 place-here p x xs h = rw h refl
 
-place-later : {A : Type 0} (p : A → Bool) (x : A) (xs : List A) → p x ≡ false → position_or_len p (x ∷ xs) ≡ 1 + position_or_len p xs
+-- it does not
+pub place-later : {A : Type 0} (p : A → Bool) (x : A) (xs : List A) → p x ≡ false → position_or_len p (x ∷ xs) ≡ 1 + position_or_len p xs
 place-later p x xs h = rw h refl
 
 any-here : {A : Type 0} (p : A → Bool) (x : A) (xs : List A) → p x ≡ true → list_any p (x ∷ xs) ≡ true
