@@ -121,33 +121,6 @@ has-at xs k d l = list_any_at (λ w. bytes_eq w (get_or xs k d)) xs k d l (bytes
 pub has-front : (xs zs : List (List ℕ)) (v : List ℕ) → has xs v ≡ true → has (xs ++ zs) v ≡ true
 has-front xs zs v h = list_any-append (λ w. bytes_eq w v) xs zs ∙ ap (λ (b : Bool). b || has zs v) h
 
--- the names of a front without repeats have their indices as places
-pub place-front : (xs zs : List (List ℕ)) (k : ℕ) (d : List ℕ) → Differ xs → k < length xs → place (xs ++ zs) (get_or xs k d) ≡ k
-place-front [] zs k d h l = absurd (omega arith)
-place-front (x ∷ xs) zs zero d h l = rw (bytes_eq-same x) refl
-place-front (x ∷ xs) zs (suc k) d h l =
-    let other : bytes_eq x (get_or xs k d) ≡ false = bytes_eq-swap x (get_or xs k d) ∙ lacks xs x k d h.0 (omega arith) in
-    rw other (omega (arith, place-front xs zs k d h.1 (omega arith)))
-
--- a list has the name at each of its places
-pub has-at : (xs : List (List ℕ)) (k : ℕ) (d : List ℕ) → k < length xs → has xs (get_or xs k d) ≡ true
-has-at xs k d l = list_any_at (λ w. bytes_eq w (get_or xs k d)) xs k d l (bytes_eq-same (get_or xs k d))
-
--- a name of the front is one of the whole
-pub has-front : (xs zs : List (List ℕ)) (v : List ℕ) → has xs v ≡ true → has (xs ++ zs) v ≡ true
-has-front xs zs v h = list_any-append (λ w. bytes_eq w v) xs zs ∙ ap (λ (b : Bool). b || has zs v) h
-
-pub length-below : (n : ℕ) → length (below n) ≡ n
-length-below zero = refl
-length-below (suc n) = rw length-append (omega (arith, length-below n))
-
-pub get_or-below : (n k : ℕ) (d : ℕ) → k < n → get_or (below n) k d ≡ k
-get_or-below zero k d l = absurd (omega arith)
-get_or-below (suc n) k d l = elim (cases_lt k n) [
-  | inl less ↦ get_or_append_left (below n) (n ∷ []) d k (omega (arith, length-below n)) ∙ get_or-below n k d less
-  | inr more ↦ (let last : k ≡ n = omega arith in get_or_at (below n) n [] d k (omega (arith, length-below n)) ∙ sym last)
-]
-
 -- the names of a front without repeats are numbered 0, 1, ..
 pub numbers-front : (xs zs : List (List ℕ)) → Differ xs → map (number_in (xs ++ zs)) xs ≡ below (length xs)
 numbers-front xs zs h =

@@ -3,12 +3,15 @@ use Rattle.std.proofs.Common.{◌≡◌, ℕ, suc, ◌+◌, ◌<◌, List, [], �
 use Rattle.std.specs.Prelude.{find}
 use Rattle.std.specs.List.{position_or_len}
 use Rattle.dt_text.proofs.WordLemmas.{bool_cases}
-use Rattle.dt_text.proofs.Places.{place-here, place-later}
+use Rattle.dt_text.proofs.Places.{place-here}
 use Rattle.dt_index.specs.Form.{factor_parts, is_times, is_minus, is_plus_or_minus, term_parts}
 use Rattle.dt_index.specs.declared.symbol_list.Symbol.{Symbol}
 
 length-cons : {A : Type 0} (x : A) (xs : List A) → length (x ∷ xs) ≡ suc (length xs)
 length-cons x xs = refl
+
+place-later : {A : Type 0} (p : A → Bool) (x : A) (xs : List A) → p x ≡ false → position_or_len p (x ∷ xs) ≡ suc (position_or_len p xs)
+place-later p x xs h = rw h (omega arith)
 
 -- Factors -------------------------------------------------------------------------------------------------------------
 

@@ -1,5 +1,6 @@
 use Rattle.std.proofs.Common.{◌≡◌, ℕ, List, Ok, ap, ◌∙◌}
 use Rattle.dt_model.specs.Steps.{◌>>=◌}
+use Rattle.dt_model.proofs.StepFacts.{first_ok}
 use Rattle.dt_index.specs.Form.{form_of}
 use Rattle.dt_index.specs.Known.{Known}
 use Rattle.dt_index.specs.Printed.{PrintingLaw, form_text}
@@ -10,7 +11,7 @@ use Rattle.dt_index.specs.declared.symbol_list.Symbol.{Symbol}
 use Rattle.dt_index.proofs.PrintForms.{IsNumber, IsSmallNumber, IsGoodForm, form_symbols}
 use Rattle.dt_index.proofs.PrintLexing.{form_reads}
 use Rattle.dt_index.proofs.PrintNames.{printed_form, resolved_literals}
-use Rattle.dt_index.proofs.PrintOrigins.{first_ok, form_good, form_there, text_good}
+use Rattle.dt_index.proofs.PrintOrigins.{form_good, form_there, text_good}
 use Rattle.dt_index.proofs.PrintParsing.{form_parses}
 use Rattle.dt_index.proofs.printing.printed_is_read_again.Goals as goal
 
