@@ -102,12 +102,18 @@ fn consumer_loop_k(alloc: Global) -> Result<Nest, NoMemory>
 fn a_walked_loop_or_one_of_a_consumer_takes_no_tensor(rt: HostRuntime) -> Result<(), Fail> {
     let alloc = rt.alloc();
     let plain = loop_k(alloc, None)?;
-    assert_eq!(rt; cause_at_k(alloc, plain)?.as_slice(), b"ok");
+    assert_eq!(rt; cause_at_k(alloc, plain)?.as_slice(), b"ok".as_slice());
     let vars = Vars::from_slice(alloc, &[2])?;
     let walked = loop_k(alloc, Some(Walk { tensor: 0, vars }))?;
-    assert_eq!(rt; cause_at_k(alloc, walked)?.as_slice(), b"Fixed k");
+    assert_eq!(rt;
+        cause_at_k(alloc, walked)?.as_slice(),
+        b"Fixed k".as_slice()
+    );
     let inside = consumer_loop_k(alloc)?;
-    assert_eq!(rt; cause_at_k(alloc, inside)?.as_slice(), b"BelowPre k");
+    assert_eq!(rt;
+        cause_at_k(alloc, inside)?.as_slice(),
+        b"BelowPre k".as_slice()
+    );
     Ok(())
 }
 

@@ -405,6 +405,6 @@ fn a_nest_has_at_most_sixteen_loops(rt: HostRuntime) -> Result<(), Fail> {
     }
     let split = Command::Split(last, *b"xy", 1);
     let (_, answer) = answered(&rt, rt.alloc(), split, sched)?;
-    assert_eq!(rt; answer.as_slice(), b"TooManyLoops");
+    assert_eq!(rt; answer.as_slice(), b"TooManyLoops".as_slice());
     Ok(())
 }

@@ -140,7 +140,7 @@ pub(crate) fn after(
     let mut sched = first;
     for command in commands {
         let (next, answer) = answered(rt, alloc, *command, sched)?;
-        assert_eq!(rt; answer.as_slice(), b"ok");
+        assert_eq!(rt; answer.as_slice(), b"ok".as_slice());
         sched = next;
     }
     Ok(sched)
