@@ -1,7 +1,9 @@
 pub mod Cells
 pub mod Clearing
+pub mod EachLeaf
 pub mod Held
 pub mod Lasts
+pub mod Shorts
 pub mod VisitFacts
 pub mod VisitSums
 pub mod WordFacts

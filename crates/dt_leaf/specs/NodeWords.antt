@@ -1,11 +1,13 @@
 -- The words of a node's memory that a visit reads and writes.
 use Rattle.std.specs.Prelude.{◌≡◌, ℕ, true, false, List, length, map, Option, Some, None, option_and_then, option_map, slice_get}
+use Rattle.std.specs.List.{AllByRecursion}
 use Rattle.dt_model.specs.Positions.{StoredTensor}
 use Rattle.dt_mem.specs.Memory.{Held, Slot, held_at, value_at}
 use Rattle.dt_nest.specs.Schedule.{Schedule}
+use Rattle.dt_nest.specs.Lawful.{IsLawful}
 use Rattle.dt_nest.specs.Run.{Run, is_among}
 use Rattle.dt_nest.specs.Unit.{Word, Sign, State, can_do, is_held, unit_of, word_of}
-use Rattle.dt_nest.specs.Visits.{Item, IsReset, IsVisit}
+use Rattle.dt_nest.specs.Visits.{Item, IsReset, IsVisit, visits_of}
 use Rattle.dt_leaf.specs.AtVisit.{IsShortLeaf, Readable}
 
 -- the cells of a memory, where a list names the buffer of each tensor and workspace
@@ -29,6 +31,10 @@ readable_in stored s state t c = is_held state t (word_of stored s t c) ≡ true
 abbrev pub IsShortItem : Item → Type 0
 IsShortItem (IsReset work) = Unit {0}
 IsShortItem (IsVisit visit) = IsShortLeaf visit
+
+-- So is each item of a schedule's visits.
+abbrev pub ItemsAreShort : Type 0
+ItemsAreShort = (stored : List StoredTensor) (s : Schedule) (path : List ℕ) → IsLawful s → AllByRecursion IsShortItem (visits_of stored s path)
 
 -- the last item of a run can be done in a state
 abbrev pub CanDoLast : List StoredTensor → Schedule → State → Option Item → Type 0

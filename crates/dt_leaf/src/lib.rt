@@ -3,13 +3,15 @@
 #![tactic(auto)]
 
 mod at_visit;
+mod laws;
 mod node_words;
 mod numbers;
 mod visiting;
 mod words;
 
 pub use at_visit::{coordinates, visit_number};
+pub use laws::items_are_short;
 pub use node_words::NodeWords;
 pub use numbers::Numbers;
-pub use visiting::visit;
+pub use visiting::{extents_of, visit};
 pub use words::word_at;

@@ -17,7 +17,7 @@ use dt_model::Locator;
 use dt_nest::{Nest, Sched, Visit, Visits};
 
 /// The extents of a schedule's loops and variables, each below 2^32.
-fn extents(sched: &Sched) -> &[u32]
+pub fn extents_of(sched: &Sched) -> &[u32]
     ensures below { (u : ℕ) → slice_index sched.now.extents u < 2 ^ 32 }
     ensures values { result.now ≡ sched.now.extents }
 {
@@ -57,7 +57,7 @@ fn add_visit<L: Locator>(
     ensures rest { LeavesRest slots.now mem.old mem.new }
     ensures room { length values.new ≡ length values.old }
 {
-    let _extents = extents(sched);
+    let _extents = extents_of(sched);
     if let Nest::Leaf { lhs, terms, .. } = at.leaf() {
         let words = NodeWords {
             mem: &*mem,
