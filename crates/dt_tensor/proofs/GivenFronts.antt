@@ -1,15 +1,16 @@
 -- The numbers of the entries and of their fronts, and where they stand.
 use Rattle.std.proofs.Common.{◌≡◌, ℕ, zero, suc, ◌+◌, ◌-◌, ◌*◌, ◌/◌, ◌<◌, ◌≤◌, ◌==◌, ◌^◌, List, [], ◌∷◌, ◌++◌, append-nil, length, get_or, take, drop, map, refl, ap, ap₂, sym, ◌∙◌, subst, arith, Option, Some, None, IsSome, option_map, is_some, Bool, true, false, cond, ◌||◌, ◌&&◌, Contains, position, filter_map, option_to_list, inl, inr, nat_lt, nat_le}
 use Rattle.std.specs.List.{All, AllByRecursion, list_all, list_any, position_or_len}
-use Rattle.std.specs.List.Sorted.{IsStrictlyIncreasing}
+use Rattle.std.specs.List.Sorted.{IsSorted, IsStrictlyIncreasing}
+use Rattle.std.specs.Ordering.{is_lt, nat_cmp}
 use Rattle.std.specs.Str.{bytes_eq}
 use Rattle.std.proofs.Math.Nat.{div-one}
 use Rattle.std.proofs.lemmas.Bool.{cases_lt, eqb-true, and_from, lt-ltb, le-leb}
-use Rattle.std.proofs.lemmas.Bool.Decides.{eqb_tells}
+use Rattle.std.proofs.lemmas.Bool.Decides.{eqb_tells, nat_tests}
 use Rattle.std.proofs.lemmas.List.{take_more, take_all, drop_all, length-map, get_or-map}
 use Rattle.std.proofs.lemmas.List.Elements.{filter_map-append, All-get_or, All-from_recursion, recursion_from_All}
 use Rattle.std.proofs.lemmas.List.Folds.{Any-from_list_any, list_any_at}
-use Rattle.std.proofs.lemmas.Nat.{div_below}
+use Rattle.std.proofs.lemmas.Nat.{div-add-mod', div_below, le-div}
 use Rattle.dt_base.specs.Rows.{product, row_major}
 use Rattle.dt_base.proofs.Assignments.{assignment-row_major}
 use Rattle.dt_base.proofs.Rows.{row_major-below}
@@ -111,6 +112,19 @@ contains_map g xs ys same f = contains_same (map g xs) (map g ys) f (image xs ys
 pub divided_by_one : (xs : List ℕ) → xs ≡ map (λ n. n / 1) xs
 divided_by_one [] = refl
 divided_by_one (x ∷ xs) = ap₂ (λ (n : ℕ) (ns : List ℕ). n ∷ ns) (sym (div-one x)) (divided_by_one xs)
+
+not_below : (a b : ℕ) → b ≤ a → is_lt (nat_cmp a b) ≡ false
+not_below a b h = grind (arith, nat_tests)
+
+-- quotients of ascending numbers don't fall
+pub quotients_rise : (numbers : List ℕ) (s : ℕ) → 0 < s → IsStrictlyIncreasing numbers → IsSorted nat_cmp (map (λ n. n / s) numbers)
+quotients_rise numbers s pos up k d low h =
+    let room : k + 1 < length numbers = omega (arith, length-map numbers (λ n. n / s)) in
+    let rise : get_or numbers k 0 < get_or numbers (k + 1) 0 = up k room in
+    let whole = div-add-mod' (get_or numbers k 0) s in
+    let le : get_or numbers k 0 / s ≤ get_or numbers (k + 1) 0 / s = le-div (get_or numbers k 0 / s) (get_or numbers (k + 1) 0) s pos (omega (arith, whole, rise)) in
+    ap₂ (λ (a b : ℕ). is_lt (nat_cmp a b)) (get_or-map (λ n. n / s) numbers (k + 1) 0 d room) (get_or-map (λ n. n / s) numbers k 0 d (omega arith))
+    ∙ not_below (get_or numbers (k + 1) 0 / s) (get_or numbers k 0 / s) le
 
 -- different numbers are different indices
 pub numbers_distinct : (ns ps : List ℕ) → IsStrictlyIncreasing ps → All (λ p. p < product ns) ps → Distinct (map (index_at ns) ps)

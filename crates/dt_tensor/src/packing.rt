@@ -1,7 +1,8 @@
 //! Packing entries into a tensor.
 
 ghost use Rattle.std.specs.Prelude.{◌≡◌, ◌-◌, ◌*◌, ◌/◌, ◌≤◌, ◌<◌, ◌^◌, ◌==◌, ℕ, [], ◌∷◌, ◌++◌, None, Some, true, nat_lt, length, take, drop, map, option_map, option_to_list, position, IfOk, OnOk, IsSome, All};
-ghost use Rattle.std.specs.List.Sorted.{IsStrictlyIncreasing};
+ghost use Rattle.std.specs.List.Sorted.{IsSorted, IsStrictlyIncreasing};
+ghost use Rattle.std.specs.Ordering.{nat_cmp};
 ghost use Rattle.dt_base.specs.Rows.{product, row_major};
 ghost use Rattle.dt_model.specs.Positions.{IsStored};
 ghost use Rattle.dt_model.specs.Shape.{dims, IsShape};
@@ -204,7 +205,7 @@ fn fronts_of(alloc: Global, numbers: Vec<u32>, size: u32) -> Result<Vec<u32>, No
     for number in numbers.as_slice() {
         fronts.push(*number / size)?;
     }
-    Ok(in_order(fronts))
+    Ok(once(fronts))
 }
 
 /// The numbers in order, each once.
@@ -213,6 +214,15 @@ fn in_order(mut numbers: Vec<u32>) -> Vec<u32>
     ensures same { (x : ℕ) → contains result.items x ≡ contains numbers.items x }
 {
     numbers.sort_unstable();
+    once(numbers)
+}
+
+/// The numbers, which are in order, each once.
+fn once(mut numbers: Vec<u32>) -> Vec<u32>
+    requires { IsSorted nat_cmp numbers.items }
+    ensures ascending { IsStrictlyIncreasing result.items }
+    ensures same { (x : ℕ) → contains result.items x ≡ contains numbers.items x }
+{
     numbers.dedup();
     numbers
 }
