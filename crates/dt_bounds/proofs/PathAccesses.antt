@@ -22,7 +22,7 @@ use Rattle.dt_nest.specs.Schedule.{Schedule}
 use Rattle.dt_nest.specs.Meaning.{World, Env, bind, renamed, guards_hold, takes, under}
 use Rattle.dt_nest.specs.World.{world_of}
 use Rattle.dt_nest.specs.Lawful.{Loops, also, Follows, AllFollow, IsSubstituted, HaveKernels, IsLawful}
-use Rattle.dt_nest.specs.Odometer.{HaveSlots}
+use Rattle.dt_nest.specs.Search.{HaveSlots}
 use Rattle.dt_nest.specs.Visits.{Scope, at_root, entered, in_producer, LeafNode, LeafVisit, Item, IsReset, IsVisit, value_in, tests_of, no_slots, with_reset, values_on, lane_visit, valid_values, substituted_visits, tree_visits, visits_of, environments, is_accessed, touches, needed_of, leaf_node}
 use Rattle.dt_nest.specs.Effects.{left_at}
 use Rattle.dt_nest.proofs.Agree.{known_agree, map_agree}

@@ -21,7 +21,7 @@ use Rattle.dt_nest.specs.Meaning.{World, Env, bind, renamed, guards_hold, takes,
 use Rattle.dt_nest.specs.World.{world_of, FitsAccess}
 use Rattle.dt_nest.specs.Lawful.{Loops, also, Follows, AllFollow, IsSubstituted, HaveKernels, IsNamed, AccessBelow, WorkAccess}
 use Rattle.dt_nest.proofs.Inside.{StaysInside, stays_inside}
-use Rattle.dt_nest.specs.Odometer.{HaveSlots}
+use Rattle.dt_nest.specs.Search.{HaveSlots}
 use Rattle.dt_nest.specs.Visits.{Scope, at_root, entered, in_producer, LeafNode, Item, IsReset, IsVisit, value_in, tests_of, no_slots, with_reset, values_on, is_valid, lane_visit, valid_values, substituted_visits, tree_visits, visits_of, IsPathIn, leaf_node}
 use Rattle.dt_nest.specs.Effects.{left_at}
 use Rattle.dt_nest.proofs.Agree.{known_agree, map_agree}

@@ -24,7 +24,7 @@ use Rattle.dt_nest.proofs.SumLaws.{sum_below_same, sum_below_zero}
 use Rattle.dt_nest.specs.Meaning.{World, Env, Entries, bind, val_of, with_work, terms_of, guards_hold, leaf_of, takes, renamed, under, nest_sum}
 use Rattle.dt_nest.specs.Lawful.{Loops, also, Follows, AllFollow, IsSubstituted, HaveKernels, nodes_with}
 use Rattle.dt_nest.specs.Visits.{Scope, entered, in_producer, Item, IsVisit, value_in, tests_of, with_reset, lane_visit, is_valid, valid_values, substituted_visits, tree_visits, leaf_node}
-use Rattle.dt_nest.specs.Odometer.{HaveSlots}
+use Rattle.dt_nest.specs.Search.{HaveSlots}
 use Rattle.dt_nest.specs.Effects.{with_more, effect_of, entries_after}
 use Rattle.dt_nest.specs.Outputs.{output_of, WritesWorks}
 use Rattle.dt_nest.proofs.Names.{renamed-append}

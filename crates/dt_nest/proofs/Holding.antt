@@ -7,7 +7,7 @@ use Rattle.dt_nest.specs.declared.loops.Pair.{Pair}
 use Rattle.dt_nest.specs.Tree.{Tree, Loop, Pre, Leaf, leaf_count, is_kernel_leaf}
 use Rattle.dt_nest.proofs.Each.{all_append, all_flat_map}
 use Rattle.dt_nest.specs.Visits.{LeafNode, Lanes, Scope, entered, in_producer, Item, IsVisit, Tests, with_reset, values_on, lane_visit, is_valid, valid_values, substituted_visits, tree_visits, leaf_node}
-use Rattle.dt_nest.specs.Odometer.{leaf_item, node_of, item_at, pairs_at}
+use Rattle.dt_nest.specs.Search.{leaf_item, node_of, item_at, pairs_at}
 use Rattle.dt_nest.specs.Branch.{node_at, loops_at, lanes_at, visit_at}
 use Rattle.dt_nest.specs.Run.{ItemHolds}
 

@@ -10,7 +10,7 @@ use Rattle.dt_nest.specs.declared.derivations.Derive.TheVariants.{Split, Quotien
 use Rattle.dt_nest.specs.declared.derivations.Derived.{Derived}
 use Rattle.dt_nest.specs.Meaning.{World, Env, derive_of, known}
 use Rattle.dt_nest.specs.Lawful.{sources, IsPast, AreOrdered, Loops, Follows, is_split, AreGuarded}
-use Rattle.dt_nest.specs.Tables.{IsSplitVar}
+use Rattle.dt_nest.specs.ValueTables.{IsSplitVar}
 use Rattle.dt_nest.specs.Values.{bounded, joined, sum_inside, derived_inside, inside}
 
 -- some variable of a split that has a value is not below its extent

@@ -9,9 +9,9 @@ use Rattle.dt_nest.specs.declared.loops.Walk.{Walk}
 use Rattle.dt_nest.specs.Tree.{Tree, Loop, Pre, Leaf, leaf_count, is_kernel_leaf}
 use Rattle.dt_nest.specs.Meaning.{World, renamed}
 use Rattle.dt_nest.specs.Visits.{Tests, is_valid}
-use Rattle.dt_nest.specs.Odometer.{node_of, pairs_at}
+use Rattle.dt_nest.specs.Search.{node_of, pairs_at}
 use Rattle.dt_nest.specs.Branch.{substituted_at, valid_at}
-use Rattle.dt_nest.specs.Tables.{tabled, IsLeafTable, IsTable}
+use Rattle.dt_nest.specs.ValueTables.{tabled, IsLeafTable, IsTable}
 use Rattle.dt_nest.specs.Visited.{HasLaneTable}
 use Rattle.dt_nest.proofs.LeafTables.{leaf_plain, leaf_inside}
 

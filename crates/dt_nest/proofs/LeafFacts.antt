@@ -20,7 +20,7 @@ use Rattle.dt_nest.specs.Lawful.{is_replaced, AreLoops, IsNamed, AreNamed, AreOr
 use Rattle.dt_nest.proofs.Inside.{guard_holds, renamed_extents, variables_below}
 use Rattle.dt_nest.specs.Values.{inside_in, guard_inside, is_below, inside_tests}
 use Rattle.dt_nest.specs.Visits.{LeafNode, Lanes, Tests, value_in, is_valid, valid_values, leaf_node}
-use Rattle.dt_nest.specs.Odometer.{AreZero, IsAt, node_of, pairs_at}
+use Rattle.dt_nest.specs.Search.{AreZero, IsAt, node_of, pairs_at}
 use Rattle.dt_nest.proofs.Each.{all_filter}
 use Rattle.dt_nest.specs.Branch.{leaf_at, node_at, leaf_tree, loops_at, substituted_at, valid_at, lanes_at}
 use Rattle.dt_nest.specs.Run.{among, with_lane, is_among, AreAscending, GuardsHold}

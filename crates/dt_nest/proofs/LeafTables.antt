@@ -7,10 +7,10 @@ use Rattle.std.proofs.lemmas.List.{append-nil, get_or-set_other, get_or-set_same
 use Rattle.dt_nest.specs.declared.loops.Pair.{Pair}
 use Rattle.dt_nest.specs.declared.derivations.Derived.{Derived}
 use Rattle.dt_nest.specs.Tree.{Tree, Pre, leaf_count}
-use Rattle.dt_nest.specs.Odometer.{pairs_at}
+use Rattle.dt_nest.specs.Search.{pairs_at}
 use Rattle.dt_nest.specs.Meaning.{World, renamed}
 use Rattle.dt_nest.specs.Values.{inside}
-use Rattle.dt_nest.specs.Tables.{tabled, IsLeafTable, IsTable}
+use Rattle.dt_nest.specs.ValueTables.{tabled, IsLeafTable, IsTable}
 use Rattle.dt_nest.proofs.Names.{renamed-append}
 use Rattle.dt_nest.proofs.TableFacts.{by_number}
 

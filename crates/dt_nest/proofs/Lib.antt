@@ -14,7 +14,7 @@ pub mod Agreement
 pub mod Pruned
 pub mod OwnSlots
 pub mod Holding
-pub mod Journeys
+pub mod ProgressFacts
 pub mod LaneTables
 pub mod LeafFacts
 pub mod RunFacts

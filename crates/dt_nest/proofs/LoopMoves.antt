@@ -6,10 +6,10 @@ use Rattle.std.proofs.Math.ListN.{set}
 use Rattle.std.proofs.lemmas.List.{set-get_or}
 use Rattle.dt_nest.specs.declared.loops.Walk.{Walk}
 use Rattle.dt_nest.specs.declared.loops.Pair.{Pair}
-use Rattle.dt_nest.specs.declared.odometer.Stand.{Stand}
+use Rattle.dt_nest.specs.declared.search.Stand.{Stand}
 use Rattle.dt_nest.specs.Tree.{Tree, Loop, Pre, Leaf, is_kernel_leaf}
 use Rattle.dt_nest.specs.Visits.{Scope, scoped, entered, Item, IsReset, IsVisit, Tests, LeafNode, lane_visit, is_valid, valid_values, values_on, tree_visits, leaf_node}
-use Rattle.dt_nest.specs.Odometer.{cleared, AreZero, Lacks, HaveSlots, works_at, leaf_item, node_of, item_at, step_of, end_on, after, IsAt, Reaches, Finds, FindsFrom, Steps}
+use Rattle.dt_nest.specs.Search.{cleared, AreZero, Lacks, HaveSlots, works_at, leaf_item, node_of, item_at, step_of, end_on, after, IsAt, Reaches, Finds, FindsFrom, Steps}
 use Rattle.dt_nest.proofs.Slots.{cleared_other, zero_cleared}
 use Rattle.dt_nest.proofs.Moves.{step_base, parts, reached, later_values}
 

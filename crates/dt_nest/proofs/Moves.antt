@@ -9,10 +9,10 @@ use Rattle.std.proofs.lemmas.List.{get_or-set_same, set-set, set-get_or}
 use Rattle.std.proofs.lemmas.Grind.{flat_map-append}
 use Rattle.dt_nest.specs.declared.loops.Walk.{Walk}
 use Rattle.dt_nest.specs.declared.loops.Pair.{Pair}
-use Rattle.dt_nest.specs.declared.odometer.Stand.{Stand}
+use Rattle.dt_nest.specs.declared.search.Stand.{Stand}
 use Rattle.dt_nest.specs.Tree.{Tree, Loop, Pre, leaf_count, is_kernel_leaf}
 use Rattle.dt_nest.specs.Visits.{Scope, scoped, entered, in_producer, Item, IsReset, Tests, valid_values, values_on, with_reset, substituted_visits, tree_visits}
-use Rattle.dt_nest.specs.Odometer.{cleared, AreZero, Lacks, HaveSlots, works_at, leaf_item, node_of, item_at, step_of, end_on, after, IsAt, Reaches, Finds, Enters, ReachesFrom, FindsFrom, Steps}
+use Rattle.dt_nest.specs.Search.{cleared, AreZero, Lacks, HaveSlots, works_at, leaf_item, node_of, item_at, step_of, end_on, after, IsAt, Reaches, Finds, Enters, ReachesFrom, FindsFrom, Steps}
 use Rattle.dt_nest.proofs.Slots.{zero_set, cleared_other, zero_kept, zero_before, zero_cleared, cleared_zero}
 
 -- a longer range in two parts

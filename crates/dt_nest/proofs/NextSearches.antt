@@ -3,10 +3,10 @@ use Rattle.std.proofs.Common.{◌≡◌, ℕ, suc, ◌+◌, ◌-◌, ◌<◌, �
 use Rattle.std.specs.Prelude.{if◌then◌else◌, nat_lt, slice_index, slice_set}
 use Rattle.dt_nest.specs.declared.loops.Walk.{Walk}
 use Rattle.dt_nest.specs.declared.loops.Pair.{Pair}
-use Rattle.dt_nest.specs.declared.odometer.Stand.{Stand}
+use Rattle.dt_nest.specs.declared.search.Stand.{Stand}
 use Rattle.dt_nest.specs.Tree.{Tree, Loop, Pre, Leaf, size_of, leaf_count, is_kernel_leaf}
 use Rattle.dt_nest.specs.Visits.{scoped, Tests, IsPathIn}
-use Rattle.dt_nest.specs.Odometer.{HaveSlots, AreZero, works_at, IsAt, end_on, Finds, FindsFrom, Steps}
+use Rattle.dt_nest.specs.Search.{HaveSlots, AreZero, works_at, IsAt, end_on, Finds, FindsFrom, Steps}
 use Rattle.dt_nest.proofs.Slots.{zero_kept}
 use Rattle.dt_nest.proofs.Moves.{first_stood, second_stood, steps_first, steps_over, steps_over_none, steps_second, steps_second_none}
 use Rattle.dt_nest.proofs.LoopMoves.{stood_loop, loop_steps, loop_over, loop_ends, over_slots, lanes_over}

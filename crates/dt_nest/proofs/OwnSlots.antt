@@ -6,7 +6,7 @@ use Rattle.std.proofs.lemmas.List.{get_or-replicate, get_or_past, length-replica
 use Rattle.dt_nest.specs.Tree.{Tree, Loop, Pre, Leaf, leaf_count, times}
 use Rattle.dt_nest.specs.Schedule.{Schedule}
 use Rattle.dt_nest.specs.Lawful.{IsNamed, WorksStand, IsLawful}
-use Rattle.dt_nest.specs.Odometer.{AreZero, Lacks, AreApart, HaveSlots}
+use Rattle.dt_nest.specs.Search.{AreZero, Lacks, AreApart, HaveSlots}
 
 abbrev once : Bool → ℕ
 once b = if b then 1 else 0

@@ -14,7 +14,7 @@ use Rattle.dt_nest.specs.Tree.{Tree, Loop, Pre, Leaf, is_kernel_leaf}
 use Rattle.dt_nest.specs.Schedule.{Schedule}
 use Rattle.dt_nest.specs.World.{world_of}
 use Rattle.dt_nest.specs.Visits.{LeafNode, Lanes, Scope, at_root, entered, in_producer, LeafVisit, Item, IsReset, IsVisit, Tests, tests_of, no_slots, with_reset, values_on, lane_visit, valid_values, substituted_visits, tree_visits, visits_of, IsPathIn, leaf_node}
-use Rattle.dt_nest.specs.Odometer.{HaveSlots, Lacks}
+use Rattle.dt_nest.specs.Search.{HaveSlots, Lacks}
 use Rattle.dt_nest.specs.PathLaws.{VisitsExtendPaths, begins_with, extends, leaf_visits, loop_values}
 use Rattle.dt_nest.proofs.Each.{all_append, all_map}
 use Rattle.dt_nest.proofs.OwnSlots.{have_slots}

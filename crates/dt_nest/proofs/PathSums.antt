@@ -16,7 +16,7 @@ use Rattle.dt_nest.specs.Schedule.{Schedule}
 use Rattle.dt_nest.specs.Meaning.{World, Env, Entries, bind, val_of, takes, renamed, nest_sum}
 use Rattle.dt_nest.specs.World.{world_of}
 use Rattle.dt_nest.specs.Lawful.{Loops, also, AllFollow, HaveKernels, IsLawful}
-use Rattle.dt_nest.specs.Odometer.{HaveSlots}
+use Rattle.dt_nest.specs.Search.{HaveSlots}
 use Rattle.dt_nest.specs.Visits.{Scope, at_root, entered, Item, IsReset, IsVisit, no_slots, value_in, tests_of, tree_visits, visits_of, IsPath, IsPathIn}
 use Rattle.dt_nest.specs.Effects.{effect_of, entries_after, left_at, visit_sum}
 use Rattle.dt_nest.specs.Outputs.{output_of, IsUnread}

@@ -5,12 +5,12 @@ use Rattle.std.specs.Prelude.{MatchOption, slice_index}
 use Rattle.dt_model.specs.Positions.{StoredTensor}
 use Rattle.dt_nest.specs.declared.branches.Substituted.{Substituted}
 use Rattle.dt_nest.specs.declared.progress.Progress.{Progress}
-use Rattle.dt_nest.specs.declared.wheels.Wheels.{Wheels}
+use Rattle.dt_nest.specs.declared.inner_loops.InnerLoops.{InnerLoops}
 use Rattle.dt_nest.specs.Schedule.{Schedule}
 use Rattle.dt_nest.specs.World.{world_of}
-use Rattle.dt_nest.specs.Odometer.{pairs_at}
+use Rattle.dt_nest.specs.Search.{pairs_at}
 use Rattle.dt_nest.specs.Branch.{substituted_at}
-use Rattle.dt_nest.specs.Tables.{tabled}
+use Rattle.dt_nest.specs.ValueTables.{tabled}
 use Rattle.dt_nest.specs.Visits.{Lanes, Item, IsReset, IsVisit}
 use Rattle.dt_nest.specs.Run.{Run, IsSound, OnLanes, OnVisit, is_among, run_of, standing}
 use Rattle.dt_nest.specs.Visited.{HasLaneTable, IsKept}
@@ -43,7 +43,7 @@ module _ (stored : List StoredTensor) (s : Schedule) (path slots : List ℕ) (p 
   point_below (Some x) u m h = lane_value_below stored s path slots p i x u (env_at (run_of stored s path slots p) (Some x) u) m h (is_lane_value (run_of stored s path slots p) x u m)
 
   -- the values that are kept are those at the visit
-  pub kept_values : (w : Wheels) (values : List (Option ℕ)) → IsKept stored s path slots p w values → ArePointValues (run_of stored s path slots p) None values
+  pub kept_values : (w : InnerLoops) (values : List (Option ℕ)) → IsKept stored s path slots p w values → ArePointValues (run_of stored s path slots p) None values
   kept_values w values k = record {
     point = tt;
     has = λ u a.

@@ -9,12 +9,12 @@ use Rattle.std.proofs.lemmas.List.{get_or-set_other, get_or-set_same}
 use Rattle.dt_nest.specs.declared.derivations.Derive.{Derive}
 use Rattle.dt_nest.specs.declared.derivations.Derive.TheVariants.{Split, Quotient, Rest, Rotate, Pos}
 use Rattle.dt_nest.specs.declared.derivations.Derived.{Derived}
-use Rattle.dt_nest.specs.declared.wheels.Wheel.{Wheel}
-use Rattle.dt_nest.specs.Wheels.{is_wheel}
+use Rattle.dt_nest.specs.declared.inner_loops.InnerLoop.{InnerLoop}
+use Rattle.dt_nest.specs.InnerLoops.{is_inner_loop}
 use Rattle.dt_nest.specs.Meaning.{World}
 use Rattle.dt_nest.specs.Lawful.{AreOrdered, IsPast, is_replaced, sources}
 use Rattle.dt_nest.specs.Values.{bounded, derived_inside, inside, joined, sum_inside}
-use Rattle.dt_nest.specs.Tables.{IsTable, dependents, depends, refilled, tabled}
+use Rattle.dt_nest.specs.ValueTables.{IsTable, dependents, depends, refilled, tabled}
 use Rattle.dt_nest.proofs.Each.{all_append, all_map}
 use Rattle.dt_nest.proofs.TableFacts.{by_number, loops_follow}
 
@@ -179,23 +179,23 @@ module _ (w : World) (old new : List ℕ) (turned : ℕ → Bool) (stay : (u : �
       every (u ∷ us) = (tt, every us)
 
 -- a loop that turns was not replaced
-not_wheel : (ds : List Derived) (wheels : List Wheel) (u : ℕ) → AllByRecursion (λ x. is_replaced ds x.var ≡ false) wheels → is_replaced ds u ≡ true → is_wheel wheels u ≡ false
-not_wheel ds [] u a e = refl
-not_wheel ds (x ∷ wheels) u a e =
-    by_number u x.var (is_wheel (x ∷ wheels) u ≡ false)
+not_inner_loop : (ds : List Derived) (inner_loops : List InnerLoop) (u : ℕ) → AllByRecursion (λ x. is_replaced ds x.var ≡ false) inner_loops → is_replaced ds u ≡ true → is_inner_loop inner_loops u ≡ false
+not_inner_loop ds [] u a e = refl
+not_inner_loop ds (x ∷ inner_loops) u a e =
+    by_number u x.var (is_inner_loop (x ∷ inner_loops) u ≡ false)
     (λ k. let t : is_replaced ds x.var ≡ true = ap (is_replaced ds) (sym k) ∙ e in let f = a.0 in absurd (cc))
-    (λ k n. ap (λ (b : Bool). b || is_wheel wheels u) k ∙ not_wheel ds wheels u a.1 e)
+    (λ k n. ap (λ (b : Bool). b || is_inner_loop inner_loops u) k ∙ not_inner_loop ds inner_loops u a.1 e)
 
--- the values after a step of the wheels
-pub turned_table : (w : World) (ds : List Derived) (old new : List ℕ) (values mid : List (Option ℕ)) (wheels : List Wheel) (k : ℕ) (list : List Derived) → AreOrdered ds → AllByRecursion (λ d. d.var < length mid) ds
-    → AllByRecursion (λ x. is_replaced ds x.var ≡ false) wheels → IsTable w ds (λ u. u) old values
-    → ((u : ℕ) → is_wheel (take (k + 1) wheels) u ≡ false → slice_index new u ≡ slice_index old u)
-    → ((u : ℕ) → is_wheel wheels u ≡ false → tabled mid u ≡ tabled values u)
+-- the values after a step of the inner loops
+pub turned_table : (w : World) (ds : List Derived) (old new : List ℕ) (values mid : List (Option ℕ)) (inner_loops : List InnerLoop) (k : ℕ) (list : List Derived) → AreOrdered ds → AllByRecursion (λ d. d.var < length mid) ds
+    → AllByRecursion (λ x. is_replaced ds x.var ≡ false) inner_loops → IsTable w ds (λ u. u) old values
+    → ((u : ℕ) → is_inner_loop (take (k + 1) inner_loops) u ≡ false → slice_index new u ≡ slice_index old u)
+    → ((u : ℕ) → is_inner_loop inner_loops u ≡ false → tabled mid u ≡ tabled values u)
     → ((u : ℕ) → tabled values u ≡ Some (slice_index old u) → tabled mid u ≡ Some (slice_index new u))
-    → list ≡ dependents ds (is_wheel (take (k + 1) wheels)) → IsTable w ds (λ u. u) new (refilled w list mid)
-turned_table w ds old new values mid wheels k list o n l t stay others follow e =
+    → list ≡ dependents ds (is_inner_loop (take (k + 1) inner_loops)) → IsTable w ds (λ u. u) new (refilled w list mid)
+turned_table w ds old new values mid inner_loops k list o n l t stay others follow e =
     subst (λ (x : List Derived). IsTable w ds (λ u. u) new (refilled w x mid)) (sym e)
-    (refills_all w old new (is_wheel (take (k + 1) wheels)) stay ds mid o n (λ u r. others u (not_wheel ds wheels u l r) ∙ t u) (loops_follow w ds old new values mid t follow))
+    (refills_all w old new (is_inner_loop (take (k + 1) inner_loops)) stay ds mid o n (λ u r. others u (not_inner_loop ds inner_loops u l r) ∙ t u) (loops_follow w ds old new values mid t follow))
 
 -- what holds of each derivation holds of those that follow from some loops
 pub all_dependents : (P : Derived → Type 0) (ds : List Derived) (loops : ℕ → Bool) → AllByRecursion P ds → AllByRecursion P (dependents ds loops)

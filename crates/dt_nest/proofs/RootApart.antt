@@ -13,7 +13,7 @@ use Rattle.dt_nest.specs.Schedule.{Schedule}
 use Rattle.dt_nest.specs.Meaning.{Env, Entries, nest_sum}
 use Rattle.dt_nest.specs.World.{world_of, entries_of}
 use Rattle.dt_nest.specs.Lawful.{IsNamed, nodes_with, IsOneOf, WorksStand, IsLawful}
-use Rattle.dt_nest.specs.Odometer.{HaveSlots}
+use Rattle.dt_nest.specs.Search.{HaveSlots}
 use Rattle.dt_nest.specs.Visits.{at_root, no_slots, tests_of, tree_visits, visits_of}
 use Rattle.dt_nest.specs.Effects.{entries_after, VisitsAddTheSum, SumReadsTensors}
 use Rattle.dt_nest.specs.Outputs.{output_of, reads_of, IsUnread}

@@ -4,7 +4,7 @@ use Rattle.std.specs.Prelude.{MatchOption, slice_index, slice_set}
 use Rattle.std.proofs.lemmas.List.{length-replicate}
 use Rattle.dt_model.specs.Positions.{StoredTensor}
 use Rattle.dt_nest.specs.declared.branches.Substituted.{Substituted}
-use Rattle.dt_nest.specs.declared.wheels.Wheels.{Wheels}
+use Rattle.dt_nest.specs.declared.inner_loops.InnerLoops.{InnerLoops}
 use Rattle.dt_nest.specs.declared.progress.Progress.{Progress}
 use Rattle.dt_nest.specs.declared.progress.Progress.TheVariants.{Before, Resetting, On, Done}
 use Rattle.dt_nest.specs.Schedule.{Schedule}
@@ -16,12 +16,12 @@ use Rattle.dt_nest.specs.Meaning.{renamed}
 use Rattle.dt_nest.specs.FitsStored.{FitsStored}
 use Rattle.dt_nest.specs.Values.{inside_in}
 use Rattle.dt_nest.specs.Visits.{Lanes, at_root, IsPath, no_slots, value_in}
-use Rattle.dt_nest.specs.Odometer.{IsAt, pairs_at}
+use Rattle.dt_nest.specs.Search.{IsAt, pairs_at}
 use Rattle.dt_nest.specs.Branch.{leaf_at, loops_at, node_at, substituted_at, valid_at, lanes_at}
 use Rattle.dt_nest.specs.Run.{run_over, IsAtLeaf, OnLanes, HasValue, HasLaneValue, IsValue, IsLaneValue, is_among, IsLeafOf, AreValued, HaveLoopValues, HaveTestValues, IsExtent, AreAscending, OnVisit, among, with_lane, GuardsHold, run_tests, run_of, standing, IsSound}
 use Rattle.dt_nest.specs.Visited.{IsKept}
-use Rattle.dt_nest.specs.Tables.{tabled}
-use Rattle.dt_nest.specs.Wheels.{AreWheels}
+use Rattle.dt_nest.specs.ValueTables.{tabled}
+use Rattle.dt_nest.specs.InnerLoops.{AreInnerLoops}
 use Rattle.dt_nest.proofs.LawfulFit.{lawful_coordinates}
 use Rattle.dt_nest.proofs.OwnSlots.{none_entered}
 use Rattle.dt_nest.proofs.Holding.{visits_hold}
@@ -43,9 +43,9 @@ module _ (stored : List StoredTensor) (s : Schedule) (path slots : List ℕ) whe
     last = tt;
   })
 
-  -- and nothing else is kept than its wheels
-  pub kept_before : (w : Wheels) (values : List (Option ℕ)) → AreWheels s path w → length values ≡ length s.names → IsKept stored s path slots Before w values
-  kept_before w values a e = record { wheels = a; room = e; table = λ leaf p. absurd (cc) }
+  -- and nothing else is kept than its inner loops
+  pub kept_before : (w : InnerLoops) (values : List (Option ℕ)) → AreInnerLoops s path w → length values ≡ length s.names → IsKept stored s path slots Before w values
+  kept_before w values a e = record { inner_loops = a; room = e; table = λ leaf p. absurd (cc) }
 
   -- and has all visits left
   pub starts : IsLawful s → FitsStored stored s → slots ≡ no_slots s → run_of stored s path slots Before ≡ run_over stored s path
@@ -140,7 +140,7 @@ module _ (stored : List StoredTensor) (s : Schedule) (path slots : List ℕ) (p 
       go Done i a e = absurd a
 
   -- the values that are kept at a visit
-  pub value_kept : (w : Wheels) (values : List (Option ℕ)) (u : ℕ) → HasValue (run_of stored s path slots p) u → IsKept stored s path slots p w values → tabled values u ≡ inside_in (world_of stored s) s.derived (pairs_at s.nest (standing p)) slots u
+  pub value_kept : (w : InnerLoops) (values : List (Option ℕ)) (u : ℕ) → HasValue (run_of stored s path slots p) u → IsKept stored s path slots p w values → tabled values u ≡ inside_in (world_of stored s) s.derived (pairs_at s.nest (standing p)) slots u
   value_kept w values u h k = go p h k
     where
       go : (p : Progress) → HasValue (run_of stored s path slots p) u → IsKept stored s path slots p w values → tabled values u ≡ inside_in (world_of stored s) s.derived (pairs_at s.nest (standing p)) slots u

@@ -6,10 +6,10 @@ use Rattle.std.proofs.Math.ListN.{set}
 use Rattle.std.proofs.lemmas.List.{set-set, set-get_or}
 use Rattle.dt_nest.specs.declared.loops.Walk.{Walk}
 use Rattle.dt_nest.specs.declared.loops.Pair.{Pair}
-use Rattle.dt_nest.specs.declared.odometer.Stand.{Stand}
+use Rattle.dt_nest.specs.declared.search.Stand.{Stand}
 use Rattle.dt_nest.specs.Tree.{Tree, Loop, Pre, leaf_count, is_kernel_leaf}
 use Rattle.dt_nest.specs.Visits.{Tests, is_valid, IsPathIn}
-use Rattle.dt_nest.specs.Odometer.{HaveSlots, AreZero, node_of, Finds, FindsFrom, Steps}
+use Rattle.dt_nest.specs.Search.{HaveSlots, AreZero, node_of, Finds, FindsFrom, Steps}
 use Rattle.dt_nest.proofs.Moves.{loop_finds, all_values, one_value, finds_first, finds_second, finds_none}
 use Rattle.dt_nest.proofs.LoopMoves.{lanes_found, lanes_none}
 

@@ -4,7 +4,7 @@ use Rattle.std.specs.Prelude.{slice_index, slice_set}
 use Rattle.std.proofs.Math.ListN.{set, length-set}
 use Rattle.std.proofs.lemmas.List.{get_or-set_other, get_or-set_same, set-set, set-get_or}
 use Rattle.dt_nest.specs.Tree.{Tree, Loop, Pre, Leaf}
-use Rattle.dt_nest.specs.Odometer.{cleared, AreZero, Lacks, AreApart, HaveSlots}
+use Rattle.dt_nest.specs.Search.{cleared, AreZero, Lacks, AreApart, HaveSlots}
 
 -- a slot of no loop of the tree
 pub zero_set : (tree : Tree) (v i : ℕ) (slots : List ℕ) → Lacks v tree → AreZero tree slots → AreZero tree (slice_set slots v i)

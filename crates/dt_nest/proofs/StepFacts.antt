@@ -1,26 +1,26 @@
--- A run that its wheels turn.
+-- A run that its inner loops turn.
 use Rattle.std.proofs.Common.{◌≡◌, ◌<◌, ℕ, Bool, true, false, List, [], ◌∷◌, ◌++◌, length, Option, Some, refl, sym, ap, ◌∙◌, subst}
 use Rattle.std.specs.List.{AllByRecursion}
 use Rattle.dt_model.specs.Positions.{StoredTensor}
 use Rattle.dt_nest.specs.declared.progress.Progress.TheVariants.{On}
-use Rattle.dt_nest.specs.declared.wheels.Wheels.{Wheels}
+use Rattle.dt_nest.specs.declared.inner_loops.InnerLoops.{InnerLoops}
 use Rattle.dt_nest.specs.Schedule.{Schedule}
 use Rattle.dt_nest.specs.Visits.{at_root, Item}
-use Rattle.dt_nest.specs.Odometer.{item_at, after, HaveSlots, pairs_at}
-use Rattle.dt_nest.specs.Wheels.{AreWheels, turned, last_wheels, last_node}
+use Rattle.dt_nest.specs.Search.{item_at, after, HaveSlots, pairs_at}
+use Rattle.dt_nest.specs.InnerLoops.{AreInnerLoops, turned, last_inner_loops, last_node}
 use Rattle.dt_nest.specs.Run.{run_tests, left_of, Stands, ItemHolds, CanGoOn, Moves}
-use Rattle.dt_nest.specs.declared.wheels.Wheel.{Wheel}
+use Rattle.dt_nest.specs.declared.inner_loops.InnerLoop.{InnerLoop}
 use Rattle.dt_nest.specs.Lawful.{IsLawful, is_replaced}
 use Rattle.dt_nest.specs.Visited.{CanTurn}
 use Rattle.dt_nest.proofs.Holding.{item-visit}
 use Rattle.dt_nest.proofs.OwnSlots.{have_slots}
-use Rattle.dt_nest.proofs.Turns.{given, Turns, last_pairs, last_turns, wheel_loops, wheels_within}
+use Rattle.dt_nest.proofs.Turns.{given, Turns, last_pairs, last_turns, inner_loop_loops, inner_loops_within}
 use Rattle.dt_nest.specs.declared.loops.Pair.{Pair}
 use Rattle.dt_nest.specs.World.{world_of}
-use Rattle.dt_nest.specs.Tables.{IsLeafTable, IsTable}
-use Rattle.dt_nest.proofs.Journeys.{sound_room}
+use Rattle.dt_nest.specs.ValueTables.{IsLeafTable, IsTable}
+use Rattle.dt_nest.proofs.ProgressFacts.{sound_room}
 
-module _ (stored : List StoredTensor) (s : Schedule) (path old new : List ℕ) (w : Wheels) (are : AreWheels s path w) where
+module _ (stored : List StoredTensor) (s : Schedule) (path old new : List ℕ) (w : InnerLoops) (are : AreInnerLoops s path w) where
   -- the values at the last leaf have their own names
   pub last_table : (values : List (Option ℕ)) → IsLeafTable (world_of stored s) s.derived [] (pairs_at s.nest w.leaf) old values → IsTable (world_of stored s) s.derived (λ u. u) old values
   last_table values t =
@@ -66,17 +66,17 @@ module _ (stored : List StoredTensor) (s : Schedule) (path old new : List ℕ) (
     left = subst (AllByRecursion (ItemHolds (run_tests stored s))) (step_left i e h) i.left;
   }
 
--- the wheels of a lawful schedule can turn
-pub can_turn : (s : Schedule) (path : List ℕ) (w : Wheels) → AreWheels s path w → IsLawful s → CanTurn s w
+-- the inner loops of a lawful schedule can turn
+pub can_turn : (s : Schedule) (path : List ℕ) (w : InnerLoops) → AreInnerLoops s path w → IsLawful s → CanTurn s w
 can_turn s path w are l = record {
-  within = subst (AllByRecursion (λ (x : Wheel). x.var < length s.names)) (sym are.items) (wheels_within s.nest path (length s.names) (have_slots s l));
-  loops = subst (AllByRecursion (λ (x : Wheel). is_replaced s.derived x.var ≡ false)) (sym are.items) (wheel_loops s.derived s.nest path l.loops);
+  within = subst (AllByRecursion (λ (x : InnerLoop). x.var < length s.names)) (sym are.items) (inner_loops_within s.nest path (length s.names) (have_slots s l));
+  loops = subst (AllByRecursion (λ (x : InnerLoop). is_replaced s.derived x.var ≡ false)) (sym are.items) (inner_loop_loops s.derived s.nest path l.loops);
   count = are.count;
   derived = are.derived;
   guards = are.guards;
 }
 
--- each wheel has a name
-pub wheels_named : (s : Schedule) (path : List ℕ) (room : ℕ) (ws : List Wheel) → IsLawful s → room ≡ length s.names → ws ≡ last_wheels s.nest path → AllByRecursion (λ w. w.var < room) ws
-wheels_named s path room ws l r e =
-    subst (λ (x : List Wheel). AllByRecursion (λ w. w.var < room) x) (sym e) (wheels_within s.nest path room (subst (λ (n : ℕ). HaveSlots s.nest n) (sym r) (have_slots s l)))
+-- each inner loop has a name
+pub inner_loops_named : (s : Schedule) (path : List ℕ) (room : ℕ) (ws : List InnerLoop) → IsLawful s → room ≡ length s.names → ws ≡ last_inner_loops s.nest path → AllByRecursion (λ w. w.var < room) ws
+inner_loops_named s path room ws l r e =
+    subst (λ (x : List InnerLoop). AllByRecursion (λ w. w.var < room) x) (sym e) (inner_loops_within s.nest path room (subst (λ (n : ℕ). HaveSlots s.nest n) (sym r) (have_slots s l)))

@@ -12,7 +12,7 @@ use Rattle.dt_nest.specs.declared.derivations.Derived.{Derived}
 use Rattle.dt_nest.specs.Meaning.{World, Env, renamed}
 use Rattle.dt_nest.specs.Lawful.{is_replaced}
 use Rattle.dt_nest.specs.Values.{derived_inside, guard_inside, inside, inside_in, inside_tests, is_below, takes_inside}
-use Rattle.dt_nest.specs.Tables.{tabled, IsTable}
+use Rattle.dt_nest.specs.ValueTables.{tabled, IsTable}
 
 -- a number that is another one, or not
 pub by_number : (u v : ℕ) (P : Type 0) → (u ≡ v → P) → (nat_eq u v ≡ false → (u ≡ v → ⊥) → P) → P

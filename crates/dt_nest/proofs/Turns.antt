@@ -1,4 +1,4 @@
--- What a step of the wheels adds to a run.
+-- What a step of the inner loops adds to a run.
 use Rattle.std.proofs.Common.{◌≡◌, ℕ, suc, ◌+◌, ◌-◌, ◌<◌, ◌≤◌, Bool, true, false, List, [], ◌∷◌, ◌++◌, append_assoc, length, drop, Option, Some, None, option_map, refl, sym, ap, ◌∙◌, subst, arith}
 use Rattle.std.specs.Prelude.{if◌then◌else◌, MatchBool, not, nat_lt, slice_index, slice_set}
 use Rattle.std.specs.List.{AllByRecursion, flat_map, range_with_len}
@@ -8,13 +8,13 @@ use Rattle.std.proofs.lemmas.List.{get_or-set_same, set-get_or, set_comm}
 use Rattle.dt_nest.specs.declared.loops.Walk.{Walk}
 use Rattle.dt_nest.specs.declared.loops.Pair.{Pair}
 use Rattle.dt_nest.specs.declared.derivations.Derived.{Derived}
-use Rattle.dt_nest.specs.declared.wheels.Wheel.{Wheel}
+use Rattle.dt_nest.specs.declared.inner_loops.InnerLoop.{InnerLoop}
 use Rattle.dt_nest.specs.Lawful.{AreLoops, is_replaced}
 use Rattle.dt_nest.specs.Tree.{Tree, Loop, Pre, Leaf, leaf_count, is_stored_kernel, is_kernel_leaf}
 use Rattle.dt_nest.specs.Visits.{Scope, entered, Item, Tests, tree_visits, substituted_visits, leaf_node}
-use Rattle.dt_nest.specs.Odometer.{cleared, AreZero, Lacks, HaveSlots, item_at, pairs_at, step_of, after, IsAt}
+use Rattle.dt_nest.specs.Search.{cleared, AreZero, Lacks, HaveSlots, item_at, pairs_at, step_of, after, IsAt}
 use Rattle.dt_nest.proofs.Each.{all_append}
-use Rattle.dt_nest.specs.Wheels.{is_plain, wheels_of, last_wheels, last_node, turned}
+use Rattle.dt_nest.specs.InnerLoops.{is_plain, inner_loops_of, last_inner_loops, last_node, turned}
 use Rattle.dt_nest.proofs.Slots.{cleared_other, length-cleared, zero_cleared, cleared_zero, zero_set, zero_kept, zero_before, set_again}
 use Rattle.dt_nest.proofs.Moves.{step_base, second_item, second_after, second_stands, second_stood}
 use Rattle.dt_nest.proofs.LoopMoves.{later, after_loop, item_loop, stood_loop}
@@ -28,35 +28,35 @@ cleared-set (Loop u n walk body) v i slots l =
 cleared-set (Pre work more p q) v i slots l = ap (cleared q) (cleared-set p v i slots l.0) ∙ cleared-set q v i (cleared p slots) l.1
 cleared-set (Leaf lhs terms guards kernel) v i slots l = refl
 
--- the slots with those of wheels at 0
-abbrev zeroed : List Wheel → List ℕ → List ℕ
+-- the slots with those of inner loops at 0
+abbrev zeroed : List InnerLoop → List ℕ → List ℕ
 zeroed [] slots = slots
 zeroed (w ∷ ws) slots = slice_set (zeroed ws slots) w.var 0
 
-zeroed-last : (ws : List Wheel) (w : Wheel) (slots : List ℕ) → zeroed (ws ++ w ∷ []) slots ≡ zeroed ws (slice_set slots w.var 0)
+zeroed-last : (ws : List InnerLoop) (w : InnerLoop) (slots : List ℕ) → zeroed (ws ++ w ∷ []) slots ≡ zeroed ws (slice_set slots w.var 0)
 zeroed-last [] w slots = refl
 zeroed-last (u ∷ ws) w slots = ap (λ (s : List ℕ). set s u.var 0) (zeroed-last ws w slots)
 
--- the wheels of loops down to a leaf are all its loops
-zeroed-cleared : (tree : Tree) (slots : List ℕ) (room : ℕ) → is_plain tree ≡ true → HaveSlots tree room → zeroed (wheels_of tree) slots ≡ cleared tree slots
+-- the inner loops of loops down to a leaf are all its loops
+zeroed-cleared : (tree : Tree) (slots : List ℕ) (room : ℕ) → is_plain tree ≡ true → HaveSlots tree room → zeroed (inner_loops_of tree) slots ≡ cleared tree slots
 zeroed-cleared (Loop v n None body) slots room p r =
-    zeroed-last (wheels_of body) (record { var = v; last = n - 1 }) slots ∙ zeroed-cleared body (slice_set slots v 0) room p r.2 ∙ cleared-set body v 0 slots r.1
+    zeroed-last (inner_loops_of body) (record { var = v; last = n - 1 }) slots ∙ zeroed-cleared body (slice_set slots v 0) room p r.2 ∙ cleared-set body v 0 slots r.1
 zeroed-cleared (Loop v n (Some walk) body) slots room p r = absurd (cc)
 zeroed-cleared (Pre work more a b) slots room p r = absurd (cc)
 zeroed-cleared (Leaf lhs terms guards kernel) slots room p r = refl
 
 -- each loop of a tree has a slot
-all_within : (tree : Tree) (room : ℕ) → HaveSlots tree room → AllByRecursion (λ w. w.var < room) (wheels_of tree)
-all_within (Loop v n walk body) room r = all_append (λ (w : Wheel). w.var < room) (wheels_of body) (record { var = v; last = n - 1 } ∷ []) (all_within body room r.2) (r.0, tt)
+all_within : (tree : Tree) (room : ℕ) → HaveSlots tree room → AllByRecursion (λ w. w.var < room) (inner_loops_of tree)
+all_within (Loop v n walk body) room r = all_append (λ (w : InnerLoop). w.var < room) (inner_loops_of body) (record { var = v; last = n - 1 } ∷ []) (all_within body room r.2) (r.0, tt)
 all_within (Pre work more p q) room r = tt
 all_within (Leaf lhs terms guards kernel) room r = tt
 
--- a wheel around others turns where none of them can
-abbrev turned_last : Option (List ℕ) → List Wheel → Wheel → List ℕ → Option (List ℕ)
+-- an inner loop around others turns where none of them can
+abbrev turned_last : Option (List ℕ) → List InnerLoop → InnerLoop → List ℕ → Option (List ℕ)
 turned_last (Some s) ws w slots = Some s
 turned_last None ws w slots = if nat_lt (slice_index slots w.var) w.last then Some (zeroed ws (slice_set slots w.var (slice_index slots w.var + 1))) else None
 
-turned-last : (ws : List Wheel) (w : Wheel) (slots : List ℕ) → turned (ws ++ w ∷ []) slots ≡ turned_last (turned ws slots) ws w slots
+turned-last : (ws : List InnerLoop) (w : InnerLoop) (slots : List ℕ) → turned (ws ++ w ∷ []) slots ≡ turned_last (turned ws slots) ws w slots
 turned-last [] w slots = refl
 turned-last (u ∷ ws) w slots =
     go (nat_lt (slice_index slots u.var) u.last) (turned ws slots) refl (turned-last ws w slots)
@@ -187,17 +187,17 @@ module _ (t : Tests) (takes : (v : ℕ) (pairs : List Pair) (slots : List ℕ) �
       go true = refl
       go false = refl
 
-  -- what the wheels of a plain tree do
+  -- what the inner loops of a plain tree do
   abbrev Turning : Tree → Scope → List ℕ → Option (List ℕ) → Type 0
   Turning tree scope old None = after t tree scope old [] 0 ≡ []
   Turning tree scope old (Some new) = Turns tree scope [] old new 0
 
-  plain_turns : (tree : Tree) (scope : Scope) (old : List ℕ) → is_plain tree ≡ true → HaveSlots tree (length old) → IsAt tree old 0 → (o : Option (List ℕ)) → turned (wheels_of tree) old ≡ o → Turning tree scope old o
+  plain_turns : (tree : Tree) (scope : Scope) (old : List ℕ) → is_plain tree ≡ true → HaveSlots tree (length old) → IsAt tree old 0 → (o : Option (List ℕ)) → turned (inner_loops_of tree) old ≡ o → Turning tree scope old o
   plain_turns (Loop v n None body) scope old p r a o e =
-      inner (turned (wheels_of body) old) refl (plain_turns body (entered scope v) old p r.2 stood.1 (turned (wheels_of body) old) refl)
-      (sym (turned-last (wheels_of body) w old) ∙ e)
+      inner (turned (inner_loops_of body) old) refl (plain_turns body (entered scope v) old p r.2 stood.1 (turned (inner_loops_of body) old) refl)
+      (sym (turned-last (inner_loops_of body) w old) ∙ e)
     where
-      w : Wheel
+      w : InnerLoop
       w = record { var = v; last = n - 1 }
 
       plain : is_kernel_leaf body ≡ false
@@ -210,7 +210,7 @@ module _ (t : Tests) (takes : (v : ℕ) (pairs : List Pair) (slots : List ℕ) �
       next : List ℕ
       next = slice_set (cleared body old) v (slice_index old v + 1)
 
-      next_is : zeroed (wheels_of body) (slice_set old v (slice_index old v + 1)) ≡ next
+      next_is : zeroed (inner_loops_of body) (slice_set old v (slice_index old v + 1)) ≡ next
       next_is = zeroed-cleared body (slice_set old v (slice_index old v + 1)) (length old) p r.2 ∙ cleared-set body v (slice_index old v + 1) old r.1
 
       next_slot : slice_index next v ≡ slice_index old v + 1
@@ -252,42 +252,42 @@ module _ (t : Tests) (takes : (v : ℕ) (pairs : List Pair) (slots : List ℕ) �
           ∙ ap (λ (m : ℕ). flat_map (step_of t None v body scope (cleared body old) []) (range_with_len (slice_index old v + 1) m)) none
 
       outer : (b : Bool) (o : Option (List ℕ)) → (b ≡ true → slice_index old v < n - 1) → (b ≡ false → n - 1 ≤ slice_index old v) → after t body (entered scope v) old [] 0 ≡ []
-          → (if b then Some (zeroed (wheels_of body) (slice_set old v (slice_index old v + 1))) else None) ≡ o → Turning (Loop v n None body) scope old o
+          → (if b then Some (zeroed (inner_loops_of body) (slice_set old v (slice_index old v + 1))) else None) ≡ o → Turning (Loop v n None body) scope old o
       outer true o l m over e =
           subst (Turning (Loop v n None body) scope old) (ap Some (sym next_is) ∙ e) (goes_on over (let k = l refl in omega (arith, k)))
       outer false o l m over e = subst (Turning (Loop v n None body) scope old) e (ends over (let k = m refl in omega (arith, k)))
 
-      inner : (q : Option (List ℕ)) → turned (wheels_of body) old ≡ q → Turning body (entered scope v) old q → turned_last (turned (wheels_of body) old) (wheels_of body) w old ≡ o → Turning (Loop v n None body) scope old o
+      inner : (q : Option (List ℕ)) → turned (inner_loops_of body) old ≡ q → Turning body (entered scope v) old q → turned_last (turned (inner_loops_of body) old) (inner_loops_of body) w old ≡ o → Turning (Loop v n None body) scope old o
       inner None f h e =
           outer (nat_lt (slice_index old v) (n - 1)) o (ltb-true (slice_index old v) (n - 1)) (ltb-false (slice_index old v) (n - 1)) h
-          (sym (ap (λ (q : Option (List ℕ)). turned_last q (wheels_of body) w old) f) ∙ e)
+          (sym (ap (λ (q : Option (List ℕ)). turned_last q (inner_loops_of body) w old) f) ∙ e)
       inner (Some new) f h e =
-          subst (Turning (Loop v n None body) scope old) (sym (ap (λ (q : Option (List ℕ)). turned_last q (wheels_of body) w old) f) ∙ e)
+          subst (Turning (Loop v n None body) scope old) (sym (ap (λ (q : Option (List ℕ)). turned_last q (inner_loops_of body) w old) f) ∙ e)
           (turns_body None v n body scope [] old new 0 plain r.1 a h)
   plain_turns (Loop v n (Some walk) body) scope old p r a o e = absurd (cc)
   plain_turns (Pre work more b c) scope old p r a o e = absurd (cc)
   plain_turns (Leaf lhs terms guards kernel) scope old p r a o e = subst (Turning (Leaf lhs terms guards kernel) scope old) e refl
 
-  -- a leaf with a kernel has no wheels
-  wheels_plain : (body : Tree) (path old new : List ℕ) → turned (last_wheels body path) old ≡ Some new → is_kernel_leaf body ≡ false
-  wheels_plain (Loop v n walk body) path old new e = refl
-  wheels_plain (Pre work more p q) path old new e = refl
-  wheels_plain (Leaf lhs terms guards kernel) path old new e = absurd (cc)
+  -- a leaf with a kernel has no inner loops
+  inner_loops_plain : (body : Tree) (path old new : List ℕ) → turned (last_inner_loops body path) old ≡ Some new → is_kernel_leaf body ≡ false
+  inner_loops_plain (Loop v n walk body) path old new e = refl
+  inner_loops_plain (Pre work more p q) path old new e = refl
+  inner_loops_plain (Leaf lhs terms guards kernel) path old new e = absurd (cc)
 
-  -- what the wheels of a nest do
-  pub last_turns : (tree : Tree) (scope : Scope) (path old new : List ℕ) → HaveSlots tree (length old) → IsAt tree old (leaf_count tree - 1) → turned (last_wheels tree path) old ≡ Some new → Turns tree scope path old new (leaf_count tree - 1)
+  -- what the inner loops of a nest do
+  pub last_turns : (tree : Tree) (scope : Scope) (path old new : List ℕ) → HaveSlots tree (length old) → IsAt tree old (leaf_count tree - 1) → turned (last_inner_loops tree path) old ≡ Some new → Turns tree scope path old new (leaf_count tree - 1)
   last_turns (Loop v n walk body) scope [] old new r a e = go (is_plain (Loop v n walk body)) refl e (λ b k. last_turns body (entered scope v) [] old new r.2 k b)
     where
-      go : (b : Bool) → is_plain (Loop v n walk body) ≡ b → turned (if b then wheels_of (Loop v n walk body) else last_wheels body []) old ≡ Some new
-          → (turned (last_wheels body []) old ≡ Some new → IsAt body old (leaf_count body - 1) → Turns body (entered scope v) [] old new (leaf_count body - 1)) → Turns (Loop v n walk body) scope [] old new (leaf_count body - 1)
+      go : (b : Bool) → is_plain (Loop v n walk body) ≡ b → turned (if b then inner_loops_of (Loop v n walk body) else last_inner_loops body []) old ≡ Some new
+          → (turned (last_inner_loops body []) old ≡ Some new → IsAt body old (leaf_count body - 1) → Turns body (entered scope v) [] old new (leaf_count body - 1)) → Turns (Loop v n walk body) scope [] old new (leaf_count body - 1)
       go true p e h =
           let all = plain_leaves (Loop v n walk body) p in let one : leaf_count body - 1 ≡ 0 = omega (arith, all) in
           subst (λ (k : ℕ). Turns (Loop v n walk body) scope [] old new k) (sym one) (plain_turns (Loop v n walk body) scope old p r (subst (λ (k : ℕ). IsAt (Loop v n walk body) old k) one a) (Some new) e)
       go false p e h =
-          let plain = wheels_plain body [] old new e in
+          let plain = inner_loops_plain body [] old new e in
           turns_body walk v n body scope [] old new (leaf_count body - 1) plain r.1 a (h e (stood_loop walk v n body old (leaf_count body - 1) plain a).1)
   last_turns (Loop v n walk body) scope (x ∷ path) old new r a e =
-      let plain = wheels_plain body path old new e in
+      let plain = inner_loops_plain body path old new e in
       turns_body walk v n body scope (x ∷ path) old new (leaf_count body - 1) plain r.1 a (last_turns body (entered scope v) path old new r.2 (stood_loop walk v n body old (leaf_count body - 1) plain a).1 e)
   last_turns (Pre work more p q) scope path old new r a e =
       let some = some_leaf q in
@@ -319,31 +319,31 @@ last_pairs (Pre work more p q) =
     ∙ ap (pairs_at q) own ∙ last_pairs q
 last_pairs (Leaf lhs terms guards kernel) = refl
 
--- each wheel has a slot
-pub wheels_within : (tree : Tree) (path : List ℕ) (room : ℕ) → HaveSlots tree room → AllByRecursion (λ w. w.var < room) (last_wheels tree path)
-wheels_within (Loop v n walk body) [] room r = go (is_plain (Loop v n walk body)) (all_within (Loop v n walk body) room r) (wheels_within body [] room r.2)
+-- each inner loop has a slot
+pub inner_loops_within : (tree : Tree) (path : List ℕ) (room : ℕ) → HaveSlots tree room → AllByRecursion (λ w. w.var < room) (last_inner_loops tree path)
+inner_loops_within (Loop v n walk body) [] room r = go (is_plain (Loop v n walk body)) (all_within (Loop v n walk body) room r) (inner_loops_within body [] room r.2)
   where
-    go : (b : Bool) → AllByRecursion (λ (w : Wheel). w.var < room) (wheels_of (Loop v n walk body)) → AllByRecursion (λ (w : Wheel). w.var < room) (last_wheels body [])
-        → AllByRecursion (λ (w : Wheel). w.var < room) (if b then wheels_of (Loop v n walk body) else last_wheels body [])
+    go : (b : Bool) → AllByRecursion (λ (w : InnerLoop). w.var < room) (inner_loops_of (Loop v n walk body)) → AllByRecursion (λ (w : InnerLoop). w.var < room) (last_inner_loops body [])
+        → AllByRecursion (λ (w : InnerLoop). w.var < room) (if b then inner_loops_of (Loop v n walk body) else last_inner_loops body [])
     go true a h = a
     go false a h = h
-wheels_within (Loop v n walk body) (x ∷ path) room r = wheels_within body path room r.2
-wheels_within (Pre work more p q) path room r = wheels_within q [] room r.1
-wheels_within (Leaf lhs terms guards kernel) path room r = tt
+inner_loops_within (Loop v n walk body) (x ∷ path) room r = inner_loops_within body path room r.2
+inner_loops_within (Pre work more p q) path room r = inner_loops_within q [] room r.1
+inner_loops_within (Leaf lhs terms guards kernel) path room r = tt
 
 -- no loop that turns was replaced
-loops_within : (ds : List Derived) (tree : Tree) → AreLoops ds tree → AllByRecursion (λ w. is_replaced ds w.var ≡ false) (wheels_of tree)
-loops_within ds (Loop v n walk body) l = all_append (λ (w : Wheel). is_replaced ds w.var ≡ false) (wheels_of body) (record { var = v; last = n - 1 } ∷ []) (loops_within ds body l.1) (l.0, tt)
+loops_within : (ds : List Derived) (tree : Tree) → AreLoops ds tree → AllByRecursion (λ w. is_replaced ds w.var ≡ false) (inner_loops_of tree)
+loops_within ds (Loop v n walk body) l = all_append (λ (w : InnerLoop). is_replaced ds w.var ≡ false) (inner_loops_of body) (record { var = v; last = n - 1 } ∷ []) (loops_within ds body l.1) (l.0, tt)
 loops_within ds (Pre work more p q) l = tt
 loops_within ds (Leaf lhs terms guards kernel) l = tt
 
-pub wheel_loops : (ds : List Derived) (tree : Tree) (path : List ℕ) → AreLoops ds tree → AllByRecursion (λ w. is_replaced ds w.var ≡ false) (last_wheels tree path)
-wheel_loops ds (Loop v n walk body) [] l = go (is_plain (Loop v n walk body)) (loops_within ds (Loop v n walk body) l) (wheel_loops ds body [] l.1)
+pub inner_loop_loops : (ds : List Derived) (tree : Tree) (path : List ℕ) → AreLoops ds tree → AllByRecursion (λ w. is_replaced ds w.var ≡ false) (last_inner_loops tree path)
+inner_loop_loops ds (Loop v n walk body) [] l = go (is_plain (Loop v n walk body)) (loops_within ds (Loop v n walk body) l) (inner_loop_loops ds body [] l.1)
   where
-    go : (b : Bool) → AllByRecursion (λ (w : Wheel). is_replaced ds w.var ≡ false) (wheels_of (Loop v n walk body)) → AllByRecursion (λ (w : Wheel). is_replaced ds w.var ≡ false) (last_wheels body [])
-        → AllByRecursion (λ (w : Wheel). is_replaced ds w.var ≡ false) (if b then wheels_of (Loop v n walk body) else last_wheels body [])
+    go : (b : Bool) → AllByRecursion (λ (w : InnerLoop). is_replaced ds w.var ≡ false) (inner_loops_of (Loop v n walk body)) → AllByRecursion (λ (w : InnerLoop). is_replaced ds w.var ≡ false) (last_inner_loops body [])
+        → AllByRecursion (λ (w : InnerLoop). is_replaced ds w.var ≡ false) (if b then inner_loops_of (Loop v n walk body) else last_inner_loops body [])
     go true a h = a
     go false a h = h
-wheel_loops ds (Loop v n walk body) (x ∷ path) l = wheel_loops ds body path l.1
-wheel_loops ds (Pre work more p q) path l = wheel_loops ds q [] l.1
-wheel_loops ds (Leaf lhs terms guards kernel) path l = tt
+inner_loop_loops ds (Loop v n walk body) (x ∷ path) l = inner_loop_loops ds body path l.1
+inner_loop_loops ds (Pre work more p q) path l = inner_loop_loops ds q [] l.1
+inner_loop_loops ds (Leaf lhs terms guards kernel) path l = tt

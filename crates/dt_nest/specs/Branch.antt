@@ -4,7 +4,7 @@ use Rattle.dt_nest.specs.declared.loops.Pair.{Pair}
 use Rattle.dt_nest.specs.declared.branches.Substituted.{Substituted}
 use Rattle.dt_nest.specs.Tree.{Tree, Loop, Pre, Leaf, leaf_count, is_kernel_leaf}
 use Rattle.dt_nest.specs.Visits.{LeafNode, Lanes, Scope, LeafVisit, Tests, is_valid, valid_values}
-use Rattle.dt_nest.specs.Odometer.{node_of, pairs_at}
+use Rattle.dt_nest.specs.Search.{node_of, pairs_at}
 
 -- the leaf
 abbrev pub leaf_at : Tree → ℕ → Tree

@@ -3,7 +3,7 @@ use Rattle.std.specs.Prelude.{◌≡◌, ℕ, ◌<◌, true, List, [], Option, S
 use Rattle.dt_nest.specs.declared.derivations.Derived.{Derived}
 use Rattle.dt_nest.specs.declared.loops.Kernel.TheVariants.{Plain}
 use Rattle.dt_nest.specs.declared.points.Point.{Point}
-use Rattle.dt_nest.specs.Tables.{tabled}
+use Rattle.dt_nest.specs.ValueTables.{tabled}
 use Rattle.dt_nest.specs.Meaning.{World, Env}
 use Rattle.dt_nest.specs.World.{world_of}
 use Rattle.dt_nest.specs.Visits.{Lanes, LeafVisit, Item, IsReset, IsVisit, value_in}

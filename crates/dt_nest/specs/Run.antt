@@ -16,7 +16,7 @@ use Rattle.dt_nest.specs.Lawful.{Loops, also, Follows, IsLawful}
 use Rattle.dt_nest.specs.Values.{inside_tests}
 use Rattle.dt_nest.specs.FitsStored.{FitsStored}
 use Rattle.dt_nest.specs.Visits.{LeafNode, Lanes, at_root, LeafVisit, Item, IsReset, IsVisit, Tests, value_in, tree_visits, visits_of, IsPath}
-use Rattle.dt_nest.specs.Odometer.{AreZero, IsAt, works_at, item_at, after}
+use Rattle.dt_nest.specs.Search.{AreZero, IsAt, works_at, item_at, after}
 use Rattle.dt_nest.specs.Branch.{leaf_tree, visit_at}
 
 -- A run: the schedule, the stored tensors, the last item, and the items that are left.

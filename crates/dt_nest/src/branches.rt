@@ -2,11 +2,11 @@
 
 ghost use Rattle.std.specs.Prelude.{◌≡◌, ◌<◌, ◌^◌, slice_get};
 ghost use Rattle.dt_nest.specs.Tree.{tree_of, leaf_count};
-ghost use Rattle.dt_nest.specs.Odometer.{works_at};
+ghost use Rattle.dt_nest.specs.Search.{works_at};
 ghost use Rattle.dt_nest.specs.Branch.{leaf_at, substituted_at};
 
 use crate::loops::Nest;
-use crate::odometer::{has_kernel, leaves};
+use crate::search::{has_kernel, leaves};
 
 /// A substituted loop and its extent.
 #[derive(Clone, Copy, Debug)]

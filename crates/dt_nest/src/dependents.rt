@@ -3,11 +3,11 @@
 ghost use Rattle.std.specs.Prelude.{◌≡◌, ◌<◌, ◌++◌, ◌∷◌, ◌^◌, [], ℕ, IfOk, OnOk, if◌then◌else◌, length};
 ghost use Rattle.std.specs.List.{AllByRecursion, list_any};
 ghost use Rattle.dt_nest.specs.Lawful.{sources};
-ghost use Rattle.dt_nest.specs.Tables.{dependents, marked};
-ghost use Rattle.dt_nest.specs.Wheels.{AreDependents, is_wheel};
+ghost use Rattle.dt_nest.specs.ValueTables.{dependents, marked};
+ghost use Rattle.dt_nest.specs.InnerLoops.{AreDependents, is_inner_loop};
 
 use crate::derivations::{Derivations, Derive, Derived};
-use crate::wheels::Wheel;
+use crate::inner_loops::InnerLoop;
 use dt_base::NoMemory;
 use std::alloc::Global;
 
@@ -82,45 +82,45 @@ pub fn dependents(
     Ok(list)
 }
 
-/// Whether a variable is the loop of a wheel.
-fn is_wheel(wheels: &[Wheel], u: u32) -> bool
-    ensures { result ≡ is_wheel wheels.now u }
+/// Whether a variable is one of the inner loops.
+fn is_inner_loop(inner_loops: &[InnerLoop], u: u32) -> bool
+    ensures { result ≡ is_inner_loop inner_loops.now u }
 {
-    match wheels.split_first() {
+    match inner_loops.split_first() {
         None => false,
-        Some((first, rest)) => u == first.var || is_wheel(rest, u),
+        Some((first, rest)) => u == first.var || is_inner_loop(rest, u),
     }
 }
 
-/// Marks the loops of wheels, and no other variable.
-fn mark_wheels(wheels: &[Wheel], marks: &mut [bool])
+/// Marks the inner loops, and no other variable.
+fn mark_inner_loops(inner_loops: &[InnerLoop], marks: &mut [bool])
     requires small { length marks.old < 2 ^ 32 }
-    requires within { AllByRecursion (λ w. w.var < length marks.old) wheels.now }
-    ensures marks { (u : ℕ) → marked marks.new u ≡ is_wheel wheels.now u }
+    requires within { AllByRecursion (λ w. w.var < length marks.old) inner_loops.now }
+    ensures marks { (u : ℕ) → marked marks.new u ≡ is_inner_loop inner_loops.now u }
     ensures length { length marks.new ≡ length marks.old }
 {
     for u in 0..marks.len() {
-        marks[u] = is_wheel(wheels, u as u32);
+        marks[u] = is_inner_loop(inner_loops, u as u32);
     }
 }
 
-/// For each wheel the derivations whose values follow from its loop or from the loops inside it.
-pub fn wheel_dependents(
+/// For each inner loop the derivations whose values follow from it or from the loops inside it.
+pub fn inner_loop_dependents(
     alloc: Global,
     derived: &[Derived],
-    wheels: &[Wheel],
+    inner_loops: &[InnerLoop],
     names: usize,
 ) -> Result<Vec<Derivations>, NoMemory>
     requires small { names < 2 ^ 32 }
     requires derived { AllByRecursion (λ d. d.var < names) derived.now }
-    requires wheels { AllByRecursion (λ w. w.var < names) wheels.now }
-    ensures count { IfOk result (λ lists. length lists.items ≡ length wheels.now) }
-    ensures lists { IfOk result (λ lists. AreDependents derived.now wheels.now lists.items) }
+    requires inner_loops { AllByRecursion (λ w. w.var < names) inner_loops.now }
+    ensures count { IfOk result (λ lists. length lists.items ≡ length inner_loops.now) }
+    ensures lists { IfOk result (λ lists. AreDependents derived.now inner_loops.now lists.items) }
 {
     let mut marks = vec![in alloc; false; names]?;
     let mut lists = Vec::new(alloc);
-    for k in 0..wheels.len() {
-        mark_wheels(&wheels[..k + 1], marks.as_mut_slice());
+    for k in 0..inner_loops.len() {
+        mark_inner_loops(&inner_loops[..k + 1], marks.as_mut_slice());
         let list = dependents(alloc, derived, marks.as_mut_slice())?;
         lists.push(list)?;
     }

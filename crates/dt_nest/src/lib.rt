@@ -4,23 +4,22 @@
 //! command owes.
 #![tactic(auto)]
 
-mod against;
 mod branches;
 mod chains;
 mod commands;
 mod communicate_loops;
+mod conditions;
 mod copies;
 mod dependents;
 mod derivations;
-mod knowing;
+mod derived_values;
+mod guards;
+mod inner_loops;
 mod laws;
 mod loops;
 mod name_tables;
 mod naming;
 mod nest_text;
-mod odometer;
-#[cfg(test)]
-mod odometer_tests;
 mod part_names;
 mod parts;
 mod path_laws;
@@ -28,14 +27,15 @@ mod points;
 mod progress;
 mod questions;
 mod schedules;
-mod stepping;
-mod tables;
+mod search;
+#[cfg(test)]
+mod search_tests;
+mod steps;
 #[cfg(test)]
 mod tests;
-mod values;
+mod value_tables;
 mod visited;
 mod visits;
-mod wheels;
 
 pub use commands::{Rewrite, RewriteEnd, rewritten};
 pub use communicate_loops::communicate_loop;
@@ -45,7 +45,6 @@ pub use laws::{fitting_are_zeros, sum_reads_tensors, visits_add_the_sum};
 pub use loops::{Kernel, Nest, Pair, Pairs, Walk, walk_copied};
 pub use name_tables::NameTable;
 pub use nest_text::{put_derived, put_nest};
-pub use odometer::has_kernel;
 pub use part_names::{name_of, tensor_name, work_name};
 pub use parts::{Moved, MovedList, SchedParts, Work, Works};
 pub use path_laws::{
@@ -61,4 +60,5 @@ pub use questions::{
     is_in, loop_count, misplaced,
 };
 pub use schedules::Sched;
+pub use search::has_kernel;
 pub use visits::Visits;

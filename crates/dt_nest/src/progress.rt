@@ -4,14 +4,14 @@ ghost use Rattle.std.specs.Prelude.{◌≡◌, ◌≤◌, ◌<◌, ◌↔◌, �
 ghost use Rattle.dt_nest.specs.declared.progress.Progress.TheVariants.{On};
 ghost use Rattle.dt_nest.specs.Schedule.{seen};
 ghost use Rattle.dt_nest.specs.Tree.{tree_of, leaf_count};
-ghost use Rattle.dt_nest.specs.Odometer.{works_at};
+ghost use Rattle.dt_nest.specs.Search.{works_at};
 ghost use Rattle.dt_nest.specs.Run.{ArrivesAt, CanGoOn, IsSound, Moves, answer_at, left_of, run_tests, standing};
 
-use crate::against::Against;
 use crate::branches::work_of;
+use crate::conditions::Conditions;
 use crate::loops::Nest;
 use crate::naming::Naming;
-use crate::odometer::{Route, first, next_visit};
+use crate::search::{Route, first, next_visit};
 use dt_model::Locator;
 
 /// One item of a run: the reset of a workspace, or the visit of a leaf.
@@ -86,21 +86,21 @@ fn arrival(nest: &Nest, leaf: u32, past: u32) -> Progress
 
 /// Goes on to the next item.
 pub fn advanced<L: Locator>(
-    against: &Against<L>,
+    conditions: &Conditions<L>,
     path: &[u32],
     progress: Progress,
     slots: &mut [u32],
     values: &mut [Option<u32>],
 ) -> Progress
-    requires on { CanGoOn (L.tensors against.now.loc.now) (seen against.now.parts.now) path.now slots.old progress }
-    requires values { length values.old ≡ length against.now.parts.now.names }
-    ensures sound { IsSound (L.tensors against.now.loc.now) (seen against.now.parts.now) path.now slots.new result }
-    ensures moves { Moves (run_tests (L.tensors against.now.loc.now) (seen against.now.parts.now)) (tree_of against.now.parts.now.nest) path.now (left_of (run_tests (L.tensors against.now.loc.now) (seen against.now.parts.now)) (tree_of against.now.parts.now.nest) path.now slots.old progress) slots.new result }
+    requires on { CanGoOn (L.tensors conditions.now.loc.now) (seen conditions.now.parts.now) path.now slots.old progress }
+    requires values { length values.old ≡ length conditions.now.parts.now.names }
+    ensures sound { IsSound (L.tensors conditions.now.loc.now) (seen conditions.now.parts.now) path.now slots.new result }
+    ensures moves { Moves (run_tests (L.tensors conditions.now.loc.now) (seen conditions.now.parts.now)) (tree_of conditions.now.parts.now.nest) path.now (left_of (run_tests (L.tensors conditions.now.loc.now) (seen conditions.now.parts.now)) (tree_of conditions.now.parts.now.nest) path.now slots.old progress) slots.new result }
     ensures values { length values.new ≡ length values.old }
 {
-    let nest = &against.parts.nest;
+    let nest = &conditions.parts.nest;
     let route = Route {
-        tests: against,
+        tests: conditions,
         naming: &Naming::Root,
         path,
     };

@@ -6,7 +6,7 @@ ghost use Rattle.dt_nest.specs.Tree.{tree_of, has_loop, loop_count, factor_acces
 ghost use Rattle.dt_nest.specs.Questions.{accesses_tensor, is_among, is_fixed, loops_to, all_differ, begins_with, chain_from, in_order, is_chain, is_in, misplaced};
 
 use crate::loops::Nest;
-use crate::odometer::has_kernel;
+use crate::search::has_kernel;
 use arrayvec::ArrayVec;
 use dt_model::{Factor, Term};
 

@@ -8,18 +8,18 @@ ghost use Rattle.dt_nest.specs.Meaning.{renamed};
 ghost use Rattle.dt_nest.specs.World.{world_of};
 ghost use Rattle.dt_nest.specs.Lawful.{AreNamed, IsNamed};
 ghost use Rattle.dt_nest.specs.Naming.{pairs_in};
-ghost use Rattle.dt_nest.specs.Odometer.{pairs_at};
-ghost use Rattle.dt_nest.specs.Tables.{IsLeafTable, tabled};
+ghost use Rattle.dt_nest.specs.Search.{pairs_at};
+ghost use Rattle.dt_nest.specs.ValueTables.{IsLeafTable, tabled};
 ghost use Rattle.dt_nest.specs.Values.{inside_tests};
 ghost use Rattle.dt_nest.specs.Branch.{substituted_at, valid_at};
 ghost use Rattle.dt_nest.specs.Visited.{HasLaneTable, IsVisited};
 
-use crate::against::Against;
 use crate::branches::{Substituted, leaf_of, substituted_of};
+use crate::conditions::Conditions;
 use crate::loops::{Nest, Pair};
 use crate::naming::Naming;
-use crate::odometer::{has_kernel, leaves};
-use crate::tables::{Lane, tabled, tabulate, tabulate_lane};
+use crate::search::{has_kernel, leaves};
+use crate::value_tables::{Lane, tabled, tabulate, tabulate_lane};
 use dt_model::Locator;
 
 /// A leaf, and the substituted loop around it.
@@ -75,22 +75,22 @@ fn rename(pairs: &[Pair], values: &mut [Option<u32>])
 pub fn tabulate_leaf<L: Locator>(
     nest: &Nest,
     naming: &Naming,
-    against: &Against<L>,
+    conditions: &Conditions<L>,
     leaf: u32,
     slots: &[u32],
     values: &mut [Option<u32>],
 )
     requires few { leaf_count (tree_of nest.now) < 2 ^ 32 }
-    requires nest { IsNamed (seen against.now.parts.now) (tree_of nest.now) }
-    requires named { AreNamed (seen against.now.parts.now) against.now.parts.now.derived }
-    requires tensors { length (L.tensors against.now.loc.now) ≡ length against.now.parts.now.tensors }
-    requires room { length slots.now ≡ length against.now.parts.now.names }
-    requires values { length values.old ≡ length against.now.parts.now.names }
-    ensures table { IsLeafTable (world_of (L.tensors against.now.loc.now) (seen against.now.parts.now)) against.now.parts.now.derived (pairs_in naming.now) (pairs_at (tree_of nest.now) leaf) slots.now values.new }
+    requires nest { IsNamed (seen conditions.now.parts.now) (tree_of nest.now) }
+    requires named { AreNamed (seen conditions.now.parts.now) conditions.now.parts.now.derived }
+    requires tensors { length (L.tensors conditions.now.loc.now) ≡ length conditions.now.parts.now.tensors }
+    requires room { length slots.now ≡ length conditions.now.parts.now.names }
+    requires values { length values.old ≡ length conditions.now.parts.now.names }
+    ensures table { IsLeafTable (world_of (L.tensors conditions.now.loc.now) (seen conditions.now.parts.now)) conditions.now.parts.now.derived (pairs_in naming.now) (pairs_at (tree_of nest.now) leaf) slots.now values.new }
     ensures values { length values.new ≡ length values.old }
 {
     match nest {
-        Nest::Loop { body, .. } => tabulate_leaf(body, naming, against, leaf, slots, values),
+        Nest::Loop { body, .. } => tabulate_leaf(body, naming, conditions, leaf, slots, values),
         Nest::Pre {
             pairs,
             producer,
@@ -100,13 +100,13 @@ pub fn tabulate_leaf<L: Locator>(
             let count = leaves(producer);
             if leaf < count {
                 let inner = Naming::Under(pairs.as_slice(), &*naming);
-                tabulate_leaf(producer, &inner, against, leaf, slots, values);
+                tabulate_leaf(producer, &inner, conditions, leaf, slots, values);
                 rename(pairs.as_slice(), values);
             } else {
-                tabulate_leaf(consumer, naming, against, leaf - count, slots, values);
+                tabulate_leaf(consumer, naming, conditions, leaf - count, slots, values);
             }
         }
-        Nest::Leaf { .. } => tabulate(against.parts, against.loc, naming, slots, values),
+        Nest::Leaf { .. } => tabulate(conditions.parts, conditions.loc, naming, slots, values),
     }
 }
 
@@ -122,21 +122,22 @@ pub struct LeafLane {
 pub fn tabulate_leaf_lane<L: Locator>(
     nest: &Nest,
     naming: &Naming,
-    against: &Against<L>,
+    conditions: &Conditions<L>,
     lane: LeafLane,
     slots: &[u32],
     values: &mut [Option<u32>],
 ) -> bool
     requires few { leaf_count (tree_of nest.now) < 2 ^ 32 }
-    requires nest { IsNamed (seen against.now.parts.now) (tree_of nest.now) }
-    requires named { AreNamed (seen against.now.parts.now) against.now.parts.now.derived }
-    requires tensors { length (L.tensors against.now.loc.now) ≡ length against.now.parts.now.tensors }
-    requires room { length slots.now ≡ length against.now.parts.now.names }
-    requires values { length values.old ≡ length against.now.parts.now.names }
-    ensures valid { result ≡ valid_at (inside_tests (world_of (L.tensors against.now.loc.now) (seen against.now.parts.now)) against.now.parts.now.derived) (tree_of nest.now) (pairs_in naming.now) slots.now lane.leaf lane.value }
-    ensures table { HasLaneTable (world_of (L.tensors against.now.loc.now) (seen against.now.parts.now)) against.now.parts.now.derived (pairs_in naming.now) (pairs_at (tree_of nest.now) lane.leaf) slots.now (substituted_at (tree_of nest.now) lane.leaf) lane.value values.new }
+    requires nest { IsNamed (seen conditions.now.parts.now) (tree_of nest.now) }
+    requires named { AreNamed (seen conditions.now.parts.now) conditions.now.parts.now.derived }
+    requires tensors { length (L.tensors conditions.now.loc.now) ≡ length conditions.now.parts.now.tensors }
+    requires room { length slots.now ≡ length conditions.now.parts.now.names }
+    requires values { length values.old ≡ length conditions.now.parts.now.names }
+    ensures valid { result ≡ valid_at (inside_tests (world_of (L.tensors conditions.now.loc.now) (seen conditions.now.parts.now)) conditions.now.parts.now.derived) (tree_of nest.now) (pairs_in naming.now) slots.now lane.leaf lane.value }
+    ensures table { HasLaneTable (world_of (L.tensors conditions.now.loc.now) (seen conditions.now.parts.now)) conditions.now.parts.now.derived (pairs_in naming.now) (pairs_at (tree_of nest.now) lane.leaf) slots.now (substituted_at (tree_of nest.now) lane.leaf) lane.value values.new }
     ensures values { length values.new ≡ length values.old }
 {
+    let value = lane.value;
     match nest {
         Nest::Loop {
             var,
@@ -145,15 +146,12 @@ pub fn tabulate_leaf_lane<L: Locator>(
             ..
         } => {
             if has_kernel(body) {
-                let at = Lane {
-                    var: *var,
-                    value: lane.value,
-                };
-                tabulate_lane(against, naming, slots, at, values);
-                return against.takes_from(walk, *var, naming, values)
-                    && against.holds_from(body, naming, values);
+                let at = Lane { var: *var, value };
+                tabulate_lane(conditions, naming, slots, at, values);
+                return conditions.takes_from(walk, *var, naming, values)
+                    && conditions.holds_from(body, naming, values);
             }
-            tabulate_leaf_lane(body, naming, against, lane, slots, values)
+            tabulate_leaf_lane(body, naming, conditions, lane, slots, values)
         }
         Nest::Pre {
             pairs,
@@ -164,15 +162,13 @@ pub fn tabulate_leaf_lane<L: Locator>(
             let count = leaves(producer);
             if lane.leaf < count {
                 let inner = Naming::Under(pairs.as_slice(), &*naming);
-                let valid = tabulate_leaf_lane(producer, &inner, against, lane, slots, values);
+                let valid = tabulate_leaf_lane(producer, &inner, conditions, lane, slots, values);
                 rename(pairs.as_slice(), values);
                 return valid;
             }
-            let lane = LeafLane {
-                leaf: lane.leaf - count,
-                value: lane.value,
-            };
-            tabulate_leaf_lane(consumer, naming, against, lane, slots, values)
+            let leaf = lane.leaf - count;
+            let lane = LeafLane { leaf, value };
+            tabulate_leaf_lane(consumer, naming, conditions, lane, slots, values)
         }
         Nest::Leaf { .. } => false,
     }

@@ -8,17 +8,17 @@ ghost use Rattle.dt_nest.specs.Visits.{IsPath};
 ghost use Rattle.dt_nest.specs.Point.{ArePointValues, HasValueAt, IsPointOf, env_at};
 ghost use Rattle.dt_nest.specs.Run.{AreAscending, AreValued, Goes, HasValue, HaveLoopValues, HaveTestValues, IsAtLeaf, IsExtent, IsLeafOf, IsValue, OnLanes, OnVisit, SameNest, answer_of, is_among, run_over};
 
-use crate::against::Against;
 use crate::branches::Substituted;
+use crate::conditions::Conditions;
+use crate::inner_loops::InnerLoops;
 use crate::loops::Nest;
 use crate::naming::Naming;
 use crate::points::Point;
 use crate::progress::{Progress, Visit};
 use crate::schedules::Sched;
-use crate::stepping::stepped;
-use crate::tables::tabled;
+use crate::steps::stepped;
+use crate::value_tables::tabled;
 use crate::visited::{LeafLane, VisitedLeaf, tabulate_leaf_lane};
-use crate::wheels::Wheels;
 use dt_base::NoMemory;
 use dt_model::Locator;
 use std::alloc::Global;
@@ -69,7 +69,7 @@ pub struct Visits<'s, L: Locator> {
     slots: Vec<u32>,
     progress: Progress,
     leaf: VisitedLeaf<'s>,
-    wheels: Wheels,
+    inner_loops: InnerLoops,
     values: Vec<Option<u32>>,
 }
 
@@ -85,7 +85,7 @@ impl<'s, L: Locator> Model for Visits<'s, L> {
 
     ghost view = { λ a. run_of (L.tensors a.loc.now) a.sched.now a.path.items a.slots.items a.progress };
 
-    ghost invariant = { λ a. IsSound (L.tensors a.loc.now) a.sched.now a.path.items a.slots.items a.progress × IsKept (L.tensors a.loc.now) a.sched.now a.path.items a.slots.items a.progress a.wheels a.values.items × IsVisited a.sched.now.nest (standing a.progress) a.leaf };
+    ghost invariant = { λ a. IsSound (L.tensors a.loc.now) a.sched.now a.path.items a.slots.items a.progress × IsKept (L.tensors a.loc.now) a.sched.now a.path.items a.slots.items a.progress a.inner_loops a.values.items × IsVisited a.sched.now.nest (standing a.progress) a.leaf };
 }
 
 impl<'s, L: Locator> Visits<'s, L> {
@@ -103,7 +103,7 @@ impl<'s, L: Locator> Visits<'s, L> {
         let parts = sched.parts();
         let names = parts.names.as_slice().len();
         let leaf = VisitedLeaf::of(&parts.nest, 0);
-        let wheels = Wheels::of(alloc, parts, path)?;
+        let inner_loops = InnerLoops::of(alloc, parts, path)?;
         let slots = zeros(alloc, names)?;
         let values = no_values(alloc, names)?;
         let path = Vec::from_slice(alloc, path)?;
@@ -114,7 +114,7 @@ impl<'s, L: Locator> Visits<'s, L> {
             slots,
             progress: Progress::Before,
             leaf,
-            wheels,
+            inner_loops,
             values,
         })
     }
@@ -125,21 +125,23 @@ impl<'s, L: Locator> Visits<'s, L> {
         ensures same { SameNest self.old self.new }
     {
         let sched = self.sched;
-        let against = Against {
+        let conditions = Conditions {
             parts: sched.parts(),
             loc: self.loc,
         };
         let progress = stepped(
-            &against,
+            &conditions,
             self.path.as_slice(),
-            &self.wheels,
+            &self.inner_loops,
             self.progress,
             self.slots.as_mut_slice(),
             self.values.as_mut_slice(),
         );
-        self.leaf = self
-            .leaf
-            .next(&against.parts.nest, self.progress.leaf(), progress.leaf());
+        self.leaf = self.leaf.next(
+            &conditions.parts.nest,
+            self.progress.leaf(),
+            progress.leaf(),
+        );
         self.progress = progress;
         progress.answer()
     }
@@ -180,7 +182,7 @@ impl<'s, L: Locator> Visits<'s, L> {
         ensures room { length values.new ≡ length values.old }
     {
         let sched = self.sched;
-        let against = Against {
+        let conditions = Conditions {
             parts: sched.parts(),
             loc: self.loc,
         };
@@ -190,9 +192,9 @@ impl<'s, L: Locator> Visits<'s, L> {
         };
         let slots = self.slots.as_slice();
         tabulate_leaf_lane(
-            &against.parts.nest,
+            &conditions.parts.nest,
             &Naming::Root,
-            &against,
+            &conditions,
             lane,
             slots,
             values,

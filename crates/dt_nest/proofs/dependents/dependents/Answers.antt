@@ -1,7 +1,7 @@
 use Rattle.std.proofs.Common.{◌≡◌, ◌<◌, ◌-◌, ℕ, suc, ◌∷◌, length, drop, sym, ap, ◌∙◌, arith, drop-cons}
 use Rattle.std.proofs.Math.ListN.{length-set}
 use Rattle.dt_nest.specs.declared.derivations.Derived.{Derived}
-use Rattle.dt_nest.specs.Tables.{marked}
+use Rattle.dt_nest.specs.ValueTables.{marked}
 use Rattle.dt_nest.proofs.Each.{all_get}
 use Rattle.dt_nest.proofs.MarkFacts.{list_more, marks_more}
 use Rattle.dt_nest.proofs.dependents.dependents.Goals as goal

@@ -1,5 +1,5 @@
 use Rattle.std.proofs.Common.{◌≡◌, ◌≤◌, ℕ, length, drop}
-use Rattle.dt_nest.specs.Tables.{dependents, depends, marked}
+use Rattle.dt_nest.specs.ValueTables.{dependents, depends, marked}
 use Rattle.dt_nest.proofs.dependents.dependents.Given as goal
 
 abbrev pub invariant-loop-k : goal.invariant-loop-k

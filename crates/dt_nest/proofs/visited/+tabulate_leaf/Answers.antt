@@ -4,13 +4,13 @@ use Rattle.dt_nest.specs.Schedule.{seen}
 use Rattle.dt_nest.specs.Tree.{tree_of, leaf_count}
 use Rattle.dt_nest.specs.World.{world_of}
 use Rattle.dt_nest.specs.Naming.{pairs_in}
-use Rattle.dt_nest.specs.Odometer.{pairs_at}
+use Rattle.dt_nest.specs.Search.{pairs_at}
 use Rattle.dt_nest.proofs.LeafTables.{leaf_inside, producer_pairs}
 use Rattle.dt_nest.proofs.visited.+tabulate_leaf.Goals as goal
 
 pub returns-then-leaf-count-clause-table : goal.returns-then-leaf-count-clause-table
 returns-then-leaf-count-clause-table g t c =
-    leaf_inside (world_of (g.L.Locator.tensors c.args.against.now.loc.now) (seen c.args.against.now.parts.now)) c.args.against.now.parts.now.derived c.args.slots.now (pairs_in c.args.naming.now) (pairs_in c.args.naming.now ++ c.as_slice.result.now) c.in-Pre.pairs c.as_slice-then-leaf-count.result.now
+    leaf_inside (world_of (g.L.Locator.tensors c.args.conditions.now.loc.now) (seen c.args.conditions.now.parts.now)) c.args.conditions.now.parts.now.derived c.args.slots.now (pairs_in c.args.naming.now) (pairs_in c.args.naming.now ++ c.as_slice.result.now) c.in-Pre.pairs c.as_slice-then-leaf-count.result.now
     (pairs_at (tree_of c.deref-then-leaf-count.result.now) c.args.leaf) (pairs_at (tree_of c.args.nest.now) c.args.leaf) c.tabulate_leaf-then-leaf-count.new.values c.rename.new.values
     (ap (λ l. pairs_in c.args.naming.now ++ l) c.as_slice.ensures) c.as_slice-then-leaf-count.ensures
     (ap (λ (n : Nest). pairs_at (tree_of n) c.args.leaf) c.in-Pre.is

@@ -1,7 +1,7 @@
 use Rattle.std.proofs.Common.{◌≡◌, ◌<◌, ℕ, true, List, [], Some, refl, sym, ap, ◌∙◌, subst}
 use Rattle.dt_nest.specs.Schedule.{Schedule, seen}
 use Rattle.dt_nest.specs.World.{world_of}
-use Rattle.dt_nest.specs.Odometer.{pairs_at}
+use Rattle.dt_nest.specs.Search.{pairs_at}
 use Rattle.dt_nest.specs.Branch.{substituted_at, valid_at}
 use Rattle.dt_nest.specs.Visited.{HasLaneTable}
 use Rattle.dt_nest.specs.Point.{ArePointValues}

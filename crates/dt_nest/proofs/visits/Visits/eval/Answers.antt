@@ -2,8 +2,8 @@ use Rattle.std.proofs.Common.{◌≡◌, ◌<◌, ℕ, List, Option, unwrap_or, 
 use Rattle.std.specs.Prelude.{slice_index}
 use Rattle.dt_nest.specs.World.{world_of}
 use Rattle.dt_nest.specs.Values.{inside_in}
-use Rattle.dt_nest.specs.Tables.{tabled}
-use Rattle.dt_nest.specs.Odometer.{pairs_at}
+use Rattle.dt_nest.specs.ValueTables.{tabled}
+use Rattle.dt_nest.specs.Search.{pairs_at}
 use Rattle.dt_nest.specs.Run.{Run, HasValue, IsValue, standing}
 use Rattle.dt_nest.proofs.RunFacts.{value_answer, value_below, value_kept}
 use Rattle.dt_nest.proofs.visits.Visits.eval.Goals as goal
@@ -14,7 +14,7 @@ returns-clause-value g c =
     let e : c.tabled.result ≡ inside_in (world_of (g.L.Locator.tensors c.self.inside.loc.now) c.self.inside.sched.now) c.self.inside.sched.now.derived (pairs_at c.self.inside.sched.now.nest (standing c.self.inside.progress)) c.self.inside.slots.items c.args.var =
     c.tabled.ensures
     ∙ ap (λ (l : List (Option ℕ)). tabled l c.args.var) c.as_slice.ensures.value
-    ∙ value_kept (g.L.Locator.tensors c.self.inside.loc.now) c.self.inside.sched.now c.self.inside.path.items c.self.inside.slots.items c.self.inside.progress c.self.invariant.0 c.self.inside.wheels c.self.inside.values.items c.args.var has c.self.invariant.1 in
+    ∙ value_kept (g.L.Locator.tensors c.self.inside.loc.now) c.self.inside.sched.now c.self.inside.path.items c.self.inside.slots.items c.self.inside.progress c.self.invariant.0 c.self.inside.inner_loops c.self.inside.values.items c.args.var has c.self.invariant.1 in
     subst (λ (n : ℕ). IsValue c.args.self.now c.args.var n) (sym c.number_of.ensures)
     (subst (λ (r : Run). IsValue r c.args.var (unwrap_or c.tabled.result 0)) c.self.view_is
     (value_answer (g.L.Locator.tensors c.self.inside.loc.now) c.self.inside.sched.now c.self.inside.path.items c.self.inside.slots.items c.self.inside.progress c.self.invariant.0 c.args.var c.tabled.result has e))

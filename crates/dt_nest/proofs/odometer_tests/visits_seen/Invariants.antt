@@ -1,6 +1,0 @@
-use Rattle.dt_nest.specs.Tree.{tree_of}
-use Rattle.dt_nest.specs.Odometer.{IsAt}
-use Rattle.dt_nest.proofs.odometer_tests.visits_seen.Given as goal
-
-abbrev pub invariant-loop : goal.invariant-loop
-invariant-loop g l = IsAt (tree_of l.nest) l.slots l.leaf

@@ -1,6 +1,0 @@
-use Rattle.dt_nest.specs.Schedule.{seen}
-use Rattle.dt_nest.proofs.OwnSlots.{few_leaves}
-use Rattle.dt_nest.proofs.stepping.tabulate_visit.Goals as goal
-
-pub tabulate_leaf-requires-clause-few : goal.tabulate_leaf-requires-clause-few
-tabulate_leaf-requires-clause-few g c = few_leaves (seen c.args.against.now.parts.now) c.requires.lawful
