@@ -1,0 +1,5 @@
+pub mod Halves
+pub mod Counts
+pub mod Puts
+pub mod Spots
+pub mod Zeros
