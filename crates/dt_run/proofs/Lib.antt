@@ -1,14 +1,13 @@
 pub mod CutRows
 pub mod EndTensors
 pub mod GivenTensors
+pub mod LeafReads
 pub mod OverStored
 pub mod PartRuns
 pub mod Parts
 pub mod RowFacts
 pub mod Runs
-pub mod VisitFacts
 pub mod VisitLeaves
 pub mod VisitSteps
-pub mod VisitSums
 pub mod WholeSets
 pub mod Workless

@@ -59,6 +59,7 @@ pub visit_goes : (old new : Run) (before after : List WholeTensor) → IsReady o
 visit_goes old new before after ready same (visit, left, last) effect others shapes = record {
   same = same;
   ready = record {
+    small = subst (λ (s : Schedule). (u : ℕ) → slice_index s.extents u < 2 ^ 32) (sym same.0) ready.small;
     count = as_many after before shapes ∙ ready.count ∙ ap (λ (s : Schedule). length s.tensors) (sym same.0);
     items = subst (λ (s : Schedule). AllByRecursion (IsItemOver (shapes_of after) s) new.left) (sym same.0)
         (subst (λ (l : List (List ℕ)). AllByRecursion (IsItemOver l old.sched) new.left) (sym shapes) rest);
@@ -76,10 +77,10 @@ visit_goes old new before after ready same (visit, left, last) effect others sha
     rest = (subst (AllByRecursion (IsItemOver (shapes_of before) old.sched)) left ready.items).1
 
 -- the run before its first item
-pub starts : (stored : List StoredTensor) (s : Schedule) (before : List WholeTensor) (r : Run) → IsRunnable stored before s → IsLawful s → r ≡ run_over stored s [] → HasGoneOn (run_over stored s []) r before before
-starts stored s before r runs lawful e =
+pub starts : (stored : List StoredTensor) (s : Schedule) (before : List WholeTensor) (r : Run) → IsRunnable stored before s → IsLawful s → ((u : ℕ) → slice_index s.extents u < 2 ^ 32) → r ≡ run_over stored s [] → HasGoneOn (run_over stored s []) r before before
+starts stored s before r runs lawful small e =
     subst (λ (v : Run). HasGoneOn (run_over stored s []) v before before) (sym e)
-    (record { same = (refl, refl); ready = record { count = runs.fits.count; items = visits_over stored before s runs lawful }; end = refl; others = λ d. refl; shapes = refl })
+    (record { same = (refl, refl); ready = record { small = small; count = runs.fits.count; items = visits_over stored before s runs lawful }; end = refl; others = λ d. refl; shapes = refl })
 
 -- a run that has gone on goes on
 pub goes_on : (old mid new : Run) (before between after : List WholeTensor) → HasGoneOn old mid before between → HasGoneOn mid new between after → HasGoneOn old new before after

@@ -1,4 +1,3 @@
-pub mod AtVisit
 pub mod Clauses
 pub mod Forms
 pub mod Limits

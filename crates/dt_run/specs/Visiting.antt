@@ -1,11 +1,12 @@
 -- A schedule's visits on whole tensors: when they may run, and what they make of the tensors.
-use Rattle.std.specs.Prelude.{◌≡◌, ℕ, Bool, List, [], ◌∷◌, length, map, option_map, unwrap_or, slice_get, slice_set}
+use Rattle.std.specs.Prelude.{◌≡◌, ℕ, ◌<◌, ◌≤◌, ◌^◌, All, Bool, List, [], ◌∷◌, length, map, option_map, Some, unwrap_or, slice_get, slice_index, slice_set}
 use Rattle.std.specs.List.{AllByRecursion}
 use Rattle.dt_base.specs.Ranges.{assignments}
 use Rattle.dt_model.specs.Ring.{ring_add}
 use Rattle.dt_model.specs.WholeTensor.{WholeTensor, number_at, zero_tensor}
 use Rattle.dt_model.specs.Positions.{StoredTensor}
 use Rattle.dt_model.specs.Stmts.{shapes_of}
+use Rattle.dt_model.specs.declared.stmt.Access.{Access}
 use Rattle.dt_model.specs.declared.stmt.Stmt.{Stmt}
 use Rattle.dt_nest.specs.Tree.{read_accesses}
 use Rattle.dt_nest.specs.Schedule.{Schedule}
@@ -16,7 +17,6 @@ use Rattle.dt_nest.specs.Chain.{MeansStmt}
 use Rattle.dt_nest.specs.Effects.{entries_after}
 use Rattle.dt_nest.specs.Visits.{LeafNode, Item, IsReset, IsVisit}
 use Rattle.dt_nest.specs.Run.{Run, SameNest}
-use Rattle.dt_run.specs.AtVisit.{IsAccessOver}
 
 -- A schedule without workspaces, over tensors that fit it, whose left tensor no leaf reads.
 pub record IsRunnable (stored : List StoredTensor) (tensors : List WholeTensor) (s : Schedule) : Type 0 where
@@ -44,6 +44,12 @@ tensors_with_sum stored s tensors =
 abbrev pub tensors_cleared : ℕ → List WholeTensor → List WholeTensor
 tensors_cleared t tensors = unwrap_or (option_map (λ left. slice_set tensors t (zero_tensor left.extents)) (slice_get tensors t)) tensors
 
+-- An access over tensors of these shapes: at most four variables, of small extents, which the tensor has.
+pub record IsAccessOver (shapes : List (List ℕ)) (extents : List ℕ) (a : Access) : Type 0 where
+  pub few : length a.vars ≤ 4
+  pub small : All (λ u. slice_index extents u ≤ 4096) a.vars
+  pub fits : slice_get shapes a.tensor ≡ Some (map (slice_index extents) a.vars)
+
 -- A leaf over tensors of these shapes, which writes the schedule's left tensor.
 pub record IsLeafOver (shapes : List (List ℕ)) (s : Schedule) (leaf : LeafNode) : Type 0 where
   pub left : leaf.lhs.tensor ≡ output_of s.nest
@@ -54,8 +60,9 @@ abbrev pub IsItemOver : List (List ℕ) → Schedule → Item → Type 0
 IsItemOver shapes s (IsReset work) = Unit {0}
 IsItemOver shapes s (IsVisit visit) = IsLeafOver shapes s visit.leaf
 
--- A run whose items that are left are over these tensors, one for each name.
+-- A run whose items that are left are over these tensors, one for each name, and whose extents are numbers of 32 bits.
 pub record IsReady (r : Run) (tensors : List WholeTensor) : Type 0 where
+  pub small : (u : ℕ) → slice_index r.sched.extents u < 2 ^ 32
   pub count : length tensors ≡ length r.sched.tensors
   pub items : AllByRecursion (IsItemOver (shapes_of tensors) r.sched) r.left
 

@@ -3,7 +3,6 @@
 #![tactic(auto)]
 
 mod answering;
-mod at_visit;
 mod form;
 mod limits;
 mod running;
@@ -11,6 +10,7 @@ mod status;
 mod tensor_text;
 mod top;
 mod visiting;
+mod whole_numbers;
 
 pub use status::Status;
 pub use top::distal;

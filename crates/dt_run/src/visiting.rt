@@ -12,11 +12,12 @@ ghost use Rattle.dt_nest.specs.Run.{IsAtLeaf};
 ghost use Rattle.dt_nest.specs.Visits.{IsVisit};
 ghost use Rattle.dt_nest.specs.World.{entries_of, world_of};
 ghost use Rattle.dt_nest.specs.Point.{env_at, visit_of};
-ghost use Rattle.dt_run.specs.AtVisit.{AreCoordinates};
+ghost use Rattle.dt_leaf.specs.AtVisit.{AreCoordinates};
 ghost use Rattle.dt_run.specs.Visiting.{HasGoneOn, IsLeafOver, IsReady, IsRunnable, IsStmtOf, tensors_cleared, tensors_with_sum};
 
-use crate::at_visit::{coordinates, visit_number};
+use crate::whole_numbers::WholeNumbers;
 use dt_base::NoMemory;
+use dt_leaf::{coordinates, extents_of, visit_number};
 use dt_model::{Access, Locator, Whole};
 use dt_nest::{Nest, Sched, Visit, Visits, visits_add_the_sum};
 use std::alloc::Global;
@@ -43,6 +44,7 @@ fn add_visit<L: Locator>(visits: &Visits<L>, tensors: &mut Vec<Whole>, values: &
     requires leaf { IsAtLeaf visits.now }
     requires room { length values.old ≡ length visits.now.sched.names }
     requires over { IsLeafOver (shapes_of tensors.old.items) visits.now.sched (visit_of visits.now).leaf }
+    requires small { (u : ℕ) → slice_index visits.now.sched.extents u < 2 ^ 32 }
     ensures entries { entries_of tensors.new.items ≡ effect_of (world_of visits.now.stored visits.now.sched) visits.now.sched.derived (IsVisit (visit_of visits.now)) (entries_of tensors.old.items) }
     ensures others { (d : WholeTensor) → slice_set tensors.new.items (output_of visits.now.sched.nest) d ≡ slice_set tensors.old.items (output_of visits.now.sched.nest) d }
     ensures shapes { shapes_of tensors.new.items ≡ shapes_of tensors.old.items }
@@ -52,7 +54,10 @@ fn add_visit<L: Locator>(visits: &Visits<L>, tensors: &mut Vec<Whole>, values: &
         Nest::Loop { .. } => {}
         Nest::Pre { .. } => {}
         Nest::Leaf { lhs, terms, .. } => {
-            let number = visit_number(visits, terms.as_slice(), tensors.as_slice(), values);
+            let numbers = WholeNumbers {
+                tensors: tensors.as_slice(),
+            };
+            let number = visit_number(visits, terms.as_slice(), &numbers, values);
             add_number(visits, lhs, number, tensors);
         }
     }
@@ -114,6 +119,7 @@ pub fn add_visits<L: Locator>(
     ensures shapes { shapes_of tensors.new.items ≡ shapes_of tensors.old.items }
 {
     let left = left_of(&sched.parts().nest);
+    let _extents = extents_of(sched);
     let mut visits = Visits::over(alloc, sched, loc, &[])?;
     let mut room = visits.lane_room(alloc)?;
     let values = room.as_mut_slice();

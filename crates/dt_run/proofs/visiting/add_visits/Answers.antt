@@ -15,7 +15,7 @@ over-requires-clause-fits g c = fits_stored (g.L.Locator.tensors c.args.loc.now)
 
 pub visits-init : goal.visits-init
 visits-init g c = record {
-  gone = starts (g.L.Locator.tensors c.args.loc.now) c.args.sched.now c.args.tensors.now.items c.in_ok-visits.visits c.requires c.parts.ensures.lawful c.in_ok-visits.ensures;
+  gone = starts (g.L.Locator.tensors c.args.loc.now) c.args.sched.now c.args.tensors.now.items c.in_ok-visits.visits c.requires c.parts.ensures.lawful c.extents_of-extents.ensures.below c.in_ok-visits.ensures;
   room = ap length c.as_mut_slice-values.ensures.value ∙ c.in_ok-room.ensures ∙ ap (λ (r : Run). length r.sched.names) c.in_ok-visits.ensures;
 }
 
