@@ -1,5 +1,5 @@
 -- Filters of lists, and tests that always or never pass.
-use Rattle.std.proofs.Common.{◌≡◌, ℕ, List, [], ◌∷◌, ◌++◌, map, refl, ap, sym, ◌∙◌, Bool, true, false, cond, ◌||◌}
+use Rattle.std.proofs.Common.{◌≡◌, ℕ, List, [], ◌∷◌, ◌++◌, map, refl, ap, sym, ◌∙◌, Bool, true, false, cond}
 use Rattle.std.specs.Prelude.{filter}
 use Rattle.std.specs.List.{flat_map, list_all}
 use Rattle.std.proofs.lemmas.List.Elements.{filter-append}
@@ -11,11 +11,6 @@ pub same_truth : (a b : Bool) → (a ≡ true → b ≡ true) → (b ≡ true �
 same_truth true b to from = sym (to refl)
 same_truth false true to from = from refl
 same_truth false false to from = refl
-
--- one of two tests passes
-pub or_right : (a b : Bool) → b ≡ true → (a || b) ≡ true
-or_right true b h = refl
-or_right false b h = h
 
 -- Lists -----------------------------------------------------------------------------------------------------------------
 

@@ -10,8 +10,8 @@ use Rattle.std.specs.List.{list_any}
 use Rattle.std.proofs.lemmas.List.{take-append-drop}
 use Rattle.std.proofs.lemmas.List.Quantifiers.{position-Some}
 use Rattle.std.specs.Prelude.{Result, Ok, Err, OnOk, OnErr, IfSome}
-use Rattle.std.proofs.lemmas.Bool.Decides.{same_from_decides}
 use Rattle.std.proofs.lemmas.Slice.Eq.{bytes_eq-Decides}
+use Rattle.dt_base.proofs.Firsts.{bytes_eq-is, bytes_eq-swap}
 use Rattle.dt_nest.specs.NameTables.{AreNumbered, number_at, there}
 
 -- one further
@@ -106,12 +106,6 @@ number-some {X} A t (y ∷ ys) (suc i) x s p k = number-some A t ys i x s p (λ 
 
 -- Names ---------------------------------------------------------------------------------------------------------------
 
-same_name : (a b : List ℕ) → bytes_eq a b ≡ true → a ≡ b
-same_name a b h = (bytes_eq-Decides a b).0 h
-
-swapped : (a b : List ℕ) → bytes_eq a b ≡ bytes_eq b a
-swapped a b = same_from_decides (bytes_eq a b) (bytes_eq b a) (bytes_eq-Decides a b) (λ t. sym (same_name b a t), λ e. (bytes_eq-Decides b a).1 (sym e))
-
 abbrev is : List ℕ → List ℕ → Bool
 is name = λ n. bytes_eq n name
 
@@ -135,7 +129,7 @@ any-position names name = ap is_some (sym (number-position (is name) names)) ∙
 
     any : (xs : List (List ℕ)) → is_some (number (is name) xs) ≡ list_any (bytes_eq name) xs
     any [] = refl
-    any (x ∷ xs) = step x xs (bytes_eq x name) (bytes_eq name x) (swapped x name) (any xs)
+    any (x ∷ xs) = step x xs (bytes_eq x name) (bytes_eq name x) (bytes_eq-swap x name) (any xs)
 
 -- what is noted is the first number
 pub numbered_find : (names : List (List ℕ)) (numbers : List (List ℕ × ℕ)) → AreNumbered names numbers → (name : List ℕ) → number_at names (lookup (bytes_eq name) numbers) name ≡ position (is name) names
@@ -178,7 +172,7 @@ pub numbered_known : (names : List (List ℕ)) (numbers : List (List ℕ × ℕ)
 numbered_known names numbers n j notes first name k h =
     number-push (lookup (bytes_eq name) numbers ≡ Some k) (is name) names n k (number-position (is name) (names ++ n ∷ []) ∙ h)
     (λ old. notes name k (sym (number-position (is name) names) ∙ old))
-    (λ t l. let had : position (is name) names ≡ Some j = ap (λ (m : List ℕ). position (is m) names) (sym (same_name n name t)) ∙ first in
+    (λ t l. let had : position (is name) names ≡ Some j = ap (λ (m : List ℕ). position (is m) names) (sym (bytes_eq-is n name t)) ∙ first in
     notes name j had ∙ sym (number-grows (is name) names (n ∷ []) j (number-position (is name) names ∙ had)) ∙ number-position (is name) (names ++ n ∷ []) ∙ h)
 
 -- one more number is noted
@@ -192,7 +186,7 @@ adds_as names shown numbers new key n k s a name = a name ∙ ap (λ (m : List �
 
 module _ (names : List (List ℕ)) (numbers new : List (List ℕ × ℕ)) (n : List ℕ) (notes : AreNumbered names numbers) (none : position (is n) names ≡ None) (adds : Adds names numbers new n) where
   missing : (name : List ℕ) (k : ℕ) → bytes_eq n name ≡ true → position (is name) names ≡ Some k → ⊥
-  missing name k t h = absurd (let e : position (is name) names ≡ None = ap (λ (m : List ℕ). position (is m) names) (sym (same_name n name t)) ∙ none in cc)
+  missing name k t h = absurd (let e : position (is name) names ≡ None = ap (λ (m : List ℕ). position (is m) names) (sym (bytes_eq-is n name t)) ∙ none in cc)
 
   other_name : (name : List ℕ) (k : ℕ) → bytes_eq n name ≡ false → position (is name) names ≡ Some k → lookup (bytes_eq name) new ≡ Some k
   other_name name k f h = adds name ∙ ap (λ (b : Bool). cond b (Some (length names)) (lookup (bytes_eq name) numbers)) f ∙ notes name k h

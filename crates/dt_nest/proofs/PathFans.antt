@@ -10,6 +10,7 @@ use Rattle.std.proofs.lemmas.List.Folds.{flat_map-map}
 use Rattle.std.proofs.lemmas.List.Sums.{sum_by-cons, sum_by-append}
 use Rattle.std.proofs.lemmas.List.{map-append}
 use Rattle.dt_base.specs.Ranges.{below, assignments}
+use Rattle.dt_base.proofs.Filters.{filter-flat_map, filter-map}
 use Rattle.dt_base.proofs.Sums.{sum_by-map}
 use Rattle.dt_model.specs.Positions.{StoredTensor}
 use Rattle.dt_nest.proofs.Each.{all_flat, all_made, below_all, all_both}
@@ -39,26 +40,6 @@ map_flat f h (x ∷ xs) = map-append f (h x) (flat_map h xs) ∙ ap (λ l. map f
 map_twice : {X Y Z : Type 0} (f : Y → Z) (g : X → Y) (xs : List X) → map f (map g xs) ≡ map (λ x. f (g x)) xs
 map_twice f g [] = refl
 map_twice f g (x ∷ xs) = ap (λ l. f (g x) ∷ l) (map_twice f g xs)
-
-filter_append : {X : Type 0} (test : X → Bool) (xs ys : List X) → filter test (xs ++ ys) ≡ filter test xs ++ filter test ys
-filter_append test [] ys = refl
-filter_append test (x ∷ xs) ys = go (test x) (filter_append test xs ys)
-  where
-    go : (b : Bool) → filter test (xs ++ ys) ≡ filter test xs ++ filter test ys → (if b then x ∷ filter test (xs ++ ys) else filter test (xs ++ ys)) ≡ (if b then x ∷ filter test xs else filter test xs) ++ filter test ys
-    go true e = ap (λ l. x ∷ l) e
-    go false e = e
-
-filter_flat : {X Y : Type 0} (test : Y → Bool) (h : X → List Y) (xs : List X) → filter test (flat_map h xs) ≡ flat_map (λ x. filter test (h x)) xs
-filter_flat test h [] = refl
-filter_flat test h (x ∷ xs) = filter_append test (h x) (flat_map h xs) ∙ ap (λ l. filter test (h x) ++ l) (filter_flat test h xs)
-
-filter_map : {X Y : Type 0} (test : Y → Bool) (f : X → Y) (xs : List X) → filter test (map f xs) ≡ map f (filter (λ x. test (f x)) xs)
-filter_map test f [] = refl
-filter_map test f (x ∷ xs) = go (test (f x)) (filter_map test f xs)
-  where
-    go : (b : Bool) → filter test (map f xs) ≡ map f (filter (λ x. test (f x)) xs) → (if b then f x ∷ filter test (map f xs) else filter test (map f xs)) ≡ map f (if b then x ∷ filter (λ x. test (f x)) xs else filter (λ x. test (f x)) xs)
-    go true e = ap (λ l. f x ∷ l) e
-    go false e = e
 
 -- equal lists, where a fact holds
 flat_same_on : {X Y : Type 0} (P : X → Type 0) (f g : X → List Y) → ((x : X) → P x → f x ≡ g x) → (xs : List X) → AllByRecursion P xs → flat_map f xs ≡ flat_map g xs
@@ -163,9 +144,9 @@ module _ (stored : List StoredTensor) (s : Schedule) where
   pub grow : (k : ℕ) → HasLoops (suc k) s.nest → paths_of stored s (suc k) ≡ flat_map (λ p. map (λ i. p ++ i ∷ []) (visited_values stored s p)) (paths_of stored s k)
   grow k h =
       ap (filter Visited) (assigned_more k s.nest h)
-      ∙ filter_flat Visited (grown (extent_inside k s.nest)) (assignments (outer_extents k s.nest))
+      ∙ filter-flat_map Visited (grown (extent_inside k s.nest)) (assignments (outer_extents k s.nest))
       ∙ flat_same_on (λ p. length p ≡ k) (λ p. filter Visited (grown (extent_inside k s.nest) p)) (λ p. map (λ i. p ++ i ∷ []) (visited_values stored s p))
-      (λ p e. filter_map Visited (λ i. p ++ i ∷ []) (below (extent_inside k s.nest)) ∙ ap (λ (n : ℕ). map (λ i. p ++ i ∷ []) (filter (λ i. Visited (p ++ i ∷ [])) (below (extent_inside n s.nest)))) (sym e))
+      (λ p e. filter-map Visited (λ i. p ++ i ∷ []) (below (extent_inside k s.nest)) ∙ ap (λ (n : ℕ). map (λ i. p ++ i ∷ []) (filter (λ i. Visited (p ++ i ∷ [])) (below (extent_inside n s.nest)))) (sym e))
       (assignments (outer_extents k s.nest)) (assigned_lengths k s.nest (fewer_loops k (suc k) s.nest (omega arith) h))
       ∙ flat_filter_on (λ p. length p ≡ k) (λ p. map (λ i. p ++ i ∷ []) (visited_values stored s p)) Visited
       (λ p e n. ap (map (λ i. p ++ i ∷ [])) (none_visited p (loops_at k p h e) n))

@@ -7,6 +7,7 @@ use Rattle.std.proofs.lemmas.Bool.{eqb-true, eq-eqb, lt-ltb, or_right}
 use Rattle.std.proofs.lemmas.List.{get_or-set_other, length-map}
 use Rattle.dt_model.specs.Shape.{are_extents, is_extent}
 use Rattle.dt_base.specs.Rows.{product}
+use Rattle.dt_base.proofs.Filters.{filter-never}
 use Rattle.dt_model.specs.declared.shape.Shape.{Shape}
 use Rattle.dt_model.specs.Positions.{StoredTensor, IsStored, tensor_at}
 use Rattle.dt_nest.specs.declared.loops.Walk.{Walk}
@@ -31,10 +32,6 @@ use Rattle.dt_nest.proofs.Agreement.{follows_under}
 flat_none : (f : ℕ → List Item) (xs : List ℕ) → ((x : ℕ) → f x ≡ []) → flat_map f xs ≡ []
 flat_none f [] h = refl
 flat_none f (x ∷ xs) h = ap (λ (l : List Item). l ++ flat_map f xs) (h x) ∙ flat_none f xs h
-
-filter_none : (p : ℕ → Bool) (xs : List ℕ) → ((x : ℕ) → p x ≡ false) → filter p xs ≡ []
-filter_none p [] h = refl
-filter_none p (x ∷ xs) h = ap (λ (b : Bool). if b then x ∷ filter p xs else filter p xs) (h x) ∙ filter_none p xs h
 
 and_false : (b c : Bool) → c ≡ false → (b && c) ≡ false
 and_false true c e = e
@@ -95,7 +92,7 @@ module _ (stored : List StoredTensor) (s : Schedule) (each : (t : ℕ) → t < l
   no_lanes walk v n (Pre work more p q) around scope slots f keep g o = refl
   no_lanes walk v n (Leaf lhs terms guards kernel) around scope slots f keep g o =
       ap (lane_visit (record { lhs = lhs; terms = terms; guards = guards; kernel = kernel }) scope slots v n)
-      (filter_none (is_valid (tests_of (world_of stored s) ds) walk v (leaf_node lhs terms guards kernel) scope.pairs slots) (range_with_len 0 n)
+      (filter-never (is_valid (tests_of (world_of stored s) ds) walk v (leaf_node lhs terms guards kernel) scope.pairs slots) (range_with_len 0 n)
       (λ x. and_false ((tests_of (world_of stored s) ds).takes walk v scope.pairs (slice_set slots v x)) (guards_hold (world_of stored s) (value_in (world_of stored s) ds scope.pairs (slice_set slots v x)) guards) (leaf_fails guards (also around v) scope.pairs (slice_set slots v x) keep g (deeper around scope.pairs slots v x f o))))
 
   -- where a variable is outside there is no visit
