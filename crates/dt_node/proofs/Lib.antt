@@ -1,0 +1,3 @@
+pub mod MemoryLengths
+pub mod NodeSteps
+pub mod Slots
