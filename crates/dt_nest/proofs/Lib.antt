@@ -50,3 +50,4 @@ pub mod Marked
 pub mod PointTables
 pub mod Numbering
 pub mod PathFilters
+pub mod Lent

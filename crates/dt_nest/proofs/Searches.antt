@@ -1,6 +1,6 @@
 -- What the search's code is given and gives.
 use Rattle.std.proofs.Common.{◌≡◌, ℕ, zero, suc, ◌+◌, ◌-◌, ◌<◌, Bool, true, false, ◌||◌, List, [], ◌∷◌, ◌++◌, length, Option, Some, None, refl, sym, ap, ◌∙◌, subst, arith}
-use Rattle.std.specs.Prelude.{slice_index, slice_set}
+use Rattle.std.specs.Prelude.{if◌then◌else◌, slice_index, slice_set}
 use Rattle.std.specs.List.{list_any, range_with_len}
 use Rattle.std.proofs.Math.ListN.{set}
 use Rattle.std.proofs.lemmas.List.{set-set, set-get_or}
@@ -8,8 +8,8 @@ use Rattle.dt_nest.specs.declared.loops.Walk.{Walk}
 use Rattle.dt_nest.specs.declared.loops.Pair.{Pair}
 use Rattle.dt_nest.specs.declared.search.Stand.{Stand}
 use Rattle.dt_nest.specs.Tree.{Tree, Loop, Pre, leaf_count, is_kernel_leaf}
-use Rattle.dt_nest.specs.Visits.{Tests, is_valid, IsPathIn}
-use Rattle.dt_nest.specs.Search.{HaveSlots, AreZero, node_of, Finds, FindsFrom, Steps}
+use Rattle.dt_nest.specs.Visits.{Tests, is_valid, IsPathIn, scoped, tree_visits}
+use Rattle.dt_nest.specs.Search.{HaveSlots, AreZero, EntryIs, node_of, Enters, Finds, FindsFrom, Steps}
 use Rattle.dt_nest.proofs.Moves.{loop_finds, all_values, one_value, finds_first, finds_second, finds_none}
 use Rattle.dt_nest.proofs.LoopMoves.{lanes_found, lanes_none}
 
@@ -19,6 +19,15 @@ finds_at t tree made pairs path old new found e f = subst (λ (x : Tree). Finds 
 
 pub steps_at : (t : Tests) (tree made : Tree) (pairs : List Pair) (path : List ℕ) (leaf : ℕ) (old new : List ℕ) (found : Option Stand) → tree ≡ made → Steps t made pairs path leaf old new found → Steps t tree pairs path leaf old new found
 steps_at t tree made pairs path leaf old new found e f = subst (λ (x : Tree). Steps t x pairs path leaf old new found) (sym e) f
+
+-- the first visit below a loop's value, where the test that it takes it leaves the slots as they are
+pub entered_by : (t : Tests) (walk : Option Walk) (v : ℕ) (body : Tree) (pairs : List Pair) (path old mid new : List ℕ) (found : Option ℕ) → mid ≡ old → t.takes walk v pairs old ≡ true
+    → Finds t body pairs path mid new found → Enters t walk v body pairs path old new found
+entered_by t walk v body pairs path old mid new found e k f = record { goes = go found (subst (λ (s : List ℕ). Finds t body pairs path s new found) e f) }
+  where
+    go : (found : Option ℕ) → Finds t body pairs path old new found → EntryIs t walk v body pairs path old new found
+    go None f = (λ around. ap (λ (b : Bool). if b then tree_visits t body (scoped pairs around) old path else []) k ∙ f.goes.0 around, f.goes.1)
+    go (Some leaf) f = (k, f)
 
 any_add : (p : ℕ → Bool) (a n : ℕ) → list_any p (range_with_len a (suc n)) ≡ (list_any p (range_with_len a n) || p (a + n))
 any_add p a zero = let g : a + 0 ≡ a = omega arith in ends (p a) ∙ ap p (sym g)

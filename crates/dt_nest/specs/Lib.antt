@@ -2,6 +2,7 @@ pub mod Branch
 pub mod Chain
 pub mod Commands
 pub mod CommunicateLoops
+pub mod Cursor
 pub mod Effects
 pub mod FitsStored
 pub mod Grid

@@ -11,12 +11,13 @@ ghost use Rattle.dt_nest.specs.Search.{node_of};
 ghost use Rattle.dt_nest.specs.Tree.{tree_of};
 ghost use Rattle.dt_nest.specs.Values.{inside_tests};
 
+use crate::cursor::Cursor;
 use crate::guards::{hold, takes_stored};
 use crate::loops::{Nest, Walk};
 use crate::naming::Naming;
 use crate::parts::SchedParts;
 use crate::search::Testing;
-use crate::value_tables::{Table, tabulate};
+use crate::value_tables::{Table, tabulate_cursor};
 use dt_model::Locator;
 
 /// The parts of a schedule against tensors: the tests of its visits.
@@ -81,34 +82,21 @@ impl<L: Locator> Testing for Conditions<'_, L> {
 
     ghost room = { λ a. length a.parts.now.names };
 
-    fn takes(
-        &self,
-        walk: &Option<Walk>,
-        var: u32,
-        naming: &Naming,
-        slots: &[u32],
-        values: &mut [Option<u32>],
-    ) -> bool {
+    fn takes(&self, walk: &Option<Walk>, var: u32, naming: &Naming, cursor: &mut Cursor) -> bool {
         match walk {
             None => true,
             Some(walk) => {
-                tabulate(self.parts, self.loc, naming, slots, values);
+                tabulate_cursor(self, naming, cursor);
                 let known = Table {
                     names: naming,
-                    values,
+                    values: cursor.values.as_slice(),
                 };
                 takes_stored(walk, var, self.parts, self.loc, &known)
             }
         }
     }
 
-    fn holds(
-        &self,
-        leaf: &Nest,
-        naming: &Naming,
-        slots: &[u32],
-        values: &mut [Option<u32>],
-    ) -> bool {
+    fn holds(&self, leaf: &Nest, naming: &Naming, cursor: &mut Cursor) -> bool {
         match leaf {
             Nest::Loop { .. } => true,
             Nest::Pre { .. } => true,
@@ -116,10 +104,10 @@ impl<L: Locator> Testing for Conditions<'_, L> {
                 if guards.as_slice().is_empty() {
                     return true;
                 }
-                tabulate(self.parts, self.loc, naming, slots, values);
+                tabulate_cursor(self, naming, cursor);
                 let known = Table {
                     names: naming,
-                    values,
+                    values: cursor.values.as_slice(),
                 };
                 hold(guards.as_slice(), self.parts.extents.as_slice(), &known)
             }

@@ -8,6 +8,7 @@ ghost use Rattle.dt_nest.specs.Lawful.{IsLawful};
 ghost use Rattle.dt_nest.specs.ValueTables.{tabled};
 ghost use Rattle.dt_nest.specs.InnerLoops.{AreInnerLoops, is_plain, is_inner_loop, last_node, last_inner_loops, turned, inner_loops_of};
 
+use crate::cursor::Cursor;
 use crate::dependents::inner_loop_dependents;
 use crate::derivations::Derivations;
 use crate::loops::{Kernel, Nest};
@@ -133,37 +134,33 @@ fn last_guards(nest: &Nest) -> &[u32]
 
 /// Goes on by one step, where an inner loop can, and tells which did, or else leaves all as it is. The values of loops follow
 /// their slots.
-pub fn turn(
-    inner_loops: &[InnerLoop],
-    slots: &mut [u32],
-    values: &mut [Option<u32>],
-) -> Option<usize>
-    requires room { AllByRecursion (λ w. w.var < length slots.old) inner_loops.now }
-    requires values { length values.old ≡ length slots.old }
-    ensures turned { turned inner_loops.now slots.old ≡ (if is_some result then Some slots.new else None) }
+pub fn turn(inner_loops: &[InnerLoop], cursor: &mut Cursor) -> Option<usize>
+    requires room { AllByRecursion (λ w. w.var < length cursor.old.slots.items) inner_loops.now }
+    requires values { length cursor.old.values.items ≡ length cursor.old.slots.items }
+    ensures turned { turned inner_loops.now cursor.old.slots.items ≡ (if is_some result then Some cursor.new.slots.items else None) }
     ensures within { IfSome result (λ k. k < length inner_loops.now) }
-    ensures stay { IfSome result (λ k. (u : ℕ) → is_inner_loop (take (k + 1) inner_loops.now) u ≡ false → slice_index slots.new u ≡ slice_index slots.old u) }
-    ensures follow { (u : ℕ) → tabled values.old u ≡ Some (slice_index slots.old u) → tabled values.new u ≡ Some (slice_index slots.new u) }
-    ensures others { (u : ℕ) → is_inner_loop inner_loops.now u ≡ false → tabled values.new u ≡ tabled values.old u }
-    ensures length { length slots.new ≡ length slots.old }
-    ensures values { length values.new ≡ length slots.old }
-    ensures stays { IfNone result ((slots.new ≡ slots.old) × (values.new ≡ values.old)) }
+    ensures stay { IfSome result (λ k. (u : ℕ) → is_inner_loop (take (k + 1) inner_loops.now) u ≡ false → slice_index cursor.new.slots.items u ≡ slice_index cursor.old.slots.items u) }
+    ensures follow { (u : ℕ) → tabled cursor.old.values.items u ≡ Some (slice_index cursor.old.slots.items u) → tabled cursor.new.values.items u ≡ Some (slice_index cursor.new.slots.items u) }
+    ensures others { (u : ℕ) → is_inner_loop inner_loops.now u ≡ false → tabled cursor.new.values.items u ≡ tabled cursor.old.values.items u }
+    ensures length { length cursor.new.slots.items ≡ length cursor.old.slots.items }
+    ensures values { length cursor.new.values.items ≡ length cursor.old.slots.items }
+    ensures stays { IfNone result ((cursor.new.slots.items ≡ cursor.old.slots.items) × (cursor.new.values.items ≡ cursor.old.values.items)) }
 {
     match inner_loops.split_first() {
         None => None,
         Some((inner_loop, rest)) => {
             let at = inner_loop.var as usize;
-            let x = slots[at];
+            let x = cursor.slots[at];
             if x < inner_loop.last {
-                slots[at] = x + 1;
-                values[at] = Some(x + 1);
+                cursor.slots[at] = x + 1;
+                cursor.values[at] = Some(x + 1);
                 return Some(0);
             }
-            match turn(rest, slots, values) {
+            match turn(rest, cursor) {
                 None => None,
                 Some(k) => {
-                    slots[at] = 0;
-                    values[at] = Some(0);
+                    cursor.slots[at] = 0;
+                    cursor.values[at] = Some(0);
                     Some(k + 1)
                 }
             }

@@ -10,6 +10,7 @@ mod commands;
 mod communicate_loops;
 mod conditions;
 mod copies;
+mod cursor;
 mod dependents;
 mod derivations;
 mod derived_values;

@@ -4,11 +4,13 @@ ghost use Rattle.std.specs.Prelude.{◌≡◌, ◌≤◌, ◌<◌, ◌↔◌, �
 ghost use Rattle.dt_nest.specs.declared.progress.Progress.TheVariants.{On};
 ghost use Rattle.dt_nest.specs.Schedule.{seen};
 ghost use Rattle.dt_nest.specs.Tree.{tree_of, leaf_count};
+ghost use Rattle.dt_nest.specs.Cursor.{HasRoom};
 ghost use Rattle.dt_nest.specs.Search.{works_at};
 ghost use Rattle.dt_nest.specs.Run.{ArrivesAt, CanGoOn, IsSound, Moves, answer_at, left_of, run_tests, standing};
 
 use crate::branches::work_of;
 use crate::conditions::Conditions;
+use crate::cursor::Cursor;
 use crate::loops::Nest;
 use crate::naming::Naming;
 use crate::search::{Route, first, next_visit};
@@ -89,14 +91,13 @@ pub fn advanced<L: Locator>(
     conditions: &Conditions<L>,
     path: &[u32],
     progress: Progress,
-    slots: &mut [u32],
-    values: &mut [Option<u32>],
+    cursor: &mut Cursor,
 ) -> Progress
-    requires on { CanGoOn (L.tensors conditions.now.loc.now) (seen conditions.now.parts.now) path.now slots.old progress }
-    requires values { length values.old ≡ length conditions.now.parts.now.names }
-    ensures sound { IsSound (L.tensors conditions.now.loc.now) (seen conditions.now.parts.now) path.now slots.new result }
-    ensures moves { Moves (run_tests (L.tensors conditions.now.loc.now) (seen conditions.now.parts.now)) (tree_of conditions.now.parts.now.nest) path.now (left_of (run_tests (L.tensors conditions.now.loc.now) (seen conditions.now.parts.now)) (tree_of conditions.now.parts.now.nest) path.now slots.old progress) slots.new result }
-    ensures values { length values.new ≡ length values.old }
+    requires on { CanGoOn (L.tensors conditions.now.loc.now) (seen conditions.now.parts.now) path.now cursor.old.slots.items progress }
+    requires size { HasRoom cursor.old (length conditions.now.parts.now.names) }
+    ensures sound { IsSound (L.tensors conditions.now.loc.now) (seen conditions.now.parts.now) path.now cursor.new.slots.items result }
+    ensures moves { Moves (run_tests (L.tensors conditions.now.loc.now) (seen conditions.now.parts.now)) (tree_of conditions.now.parts.now.nest) path.now (left_of (run_tests (L.tensors conditions.now.loc.now) (seen conditions.now.parts.now)) (tree_of conditions.now.parts.now.nest) path.now cursor.old.slots.items progress) cursor.new.slots.items result }
+    ensures size { HasRoom cursor.new (length conditions.now.parts.now.names) }
 {
     let nest = &conditions.parts.nest;
     let route = Route {
@@ -105,12 +106,12 @@ pub fn advanced<L: Locator>(
         path,
     };
     match progress {
-        Progress::Before => match first(nest, &route, slots, values) {
+        Progress::Before => match first(nest, &route, cursor) {
             None => Progress::Done,
             Some(leaf) => arrival(nest, leaf, 0),
         },
         Progress::Resetting { leaf, past, .. } => arrival(nest, leaf, past),
-        Progress::On { leaf } => match next_visit(nest, &route, leaf, slots, values) {
+        Progress::On { leaf } => match next_visit(nest, &route, leaf, cursor) {
             None => Progress::Done,
             Some(stand) => arrival(nest, stand.leaf, stand.past),
         },

@@ -5,8 +5,10 @@ ghost use Rattle.std.specs.List.{list_any, range_with_len};
 ghost use Rattle.dt_nest.specs.Tree.{Loop, Pre, tree_of, leaf_count, is_kernel_leaf};
 ghost use Rattle.dt_nest.specs.Naming.{pairs_in};
 ghost use Rattle.dt_nest.specs.Visits.{Tests, is_valid, IsPathIn};
+ghost use Rattle.dt_nest.specs.Cursor.{HasRoom};
 ghost use Rattle.dt_nest.specs.Search.{AreZero, HaveSlots, IsAt, end_on, node_of, Finds, Enters, FindsFrom, Steps};
 
+use crate::cursor::Cursor;
 use crate::loops::{Kernel, Nest, Pair, Walk};
 use crate::naming::Naming;
 
@@ -22,35 +24,29 @@ pub struct Stand {
 pub trait Testing {
     ghost use Rattle.std.specs.Prelude.{ℕ};
     ghost use Rattle.dt_nest.specs.Visits.{Tests};
+    ghost use Rattle.dt_nest.specs.Cursor.{HasRoom};
 
     ghost tests: { Self → Tests };
 
     /// When the tests may be asked.
     ghost ready: { Self → Type 0 };
 
-    /// How many slots there are. The tests write as many values down on the way.
+    /// How many names there are.
     ghost room: { Self → ℕ };
 
-    fn takes(
-        &self,
-        walk: &Option<Walk>,
-        var: u32,
-        naming: &Naming,
-        slots: &[u32],
-        values: &mut [Option<u32>],
-    ) -> bool
+    fn takes(&self, walk: &Option<Walk>, var: u32, naming: &Naming, cursor: &mut Cursor) -> bool
         requires ready { ready self.now }
-        requires slots { length slots.now ≡ room self.now }
-        requires values { length values.old ≡ room self.now }
-        ensures takes { result ≡ (tests self.now).takes walk.now var (pairs_in naming.now) slots.now }
-        ensures values { length values.new ≡ length values.old };
+        requires size { HasRoom cursor.old (room self.now) }
+        ensures takes { result ≡ (tests self.now).takes walk.now var (pairs_in naming.now) cursor.old.slots.items }
+        ensures slots { cursor.new.slots.items ≡ cursor.old.slots.items }
+        ensures size { HasRoom cursor.new (room self.now) };
 
-    fn holds(&self, leaf: &Nest, naming: &Naming, slots: &[u32], values: &mut [Option<u32>]) -> bool
+    fn holds(&self, leaf: &Nest, naming: &Naming, cursor: &mut Cursor) -> bool
         requires ready { ready self.now }
-        requires slots { length slots.now ≡ room self.now }
-        requires values { length values.old ≡ room self.now }
-        ensures holds { result ≡ (tests self.now).holds (node_of (tree_of leaf.now)) (pairs_in naming.now) slots.now }
-        ensures values { length values.new ≡ length values.old };
+        requires size { HasRoom cursor.old (room self.now) }
+        ensures holds { result ≡ (tests self.now).holds (node_of (tree_of leaf.now)) (pairs_in naming.now) cursor.old.slots.items }
+        ensures slots { cursor.new.slots.items ≡ cursor.old.slots.items }
+        ensures size { HasRoom cursor.new (room self.now) };
 }
 
 /// The number of leaves.
@@ -109,46 +105,32 @@ pub struct Route<'a, T: Testing> {
 }
 
 /// Whether a substituted loop over a leaf has the value in its slot as a valid one.
-fn is_lane<T: Testing>(
-    head: &Head,
-    route: &Route<T>,
-    slots: &[u32],
-    values: &mut [Option<u32>],
-) -> bool
+fn is_lane<T: Testing>(head: &Head, route: &Route<T>, cursor: &mut Cursor) -> bool
     requires ready { T.ready route.now.tests.now }
-    requires slots { length slots.now ≡ T.room route.now.tests.now }
-    requires values { length values.old ≡ T.room route.now.tests.now }
-    ensures valid { result ≡ ((T.tests route.now.tests.now).takes head.now.walk.now head.now.var (pairs_in route.now.naming.now) slots.now && (T.tests route.now.tests.now).holds (node_of (tree_of head.now.body.now)) (pairs_in route.now.naming.now) slots.now) }
-    ensures values { length values.new ≡ length values.old }
+    requires size { HasRoom cursor.old (T.room route.now.tests.now) }
+    ensures valid { result ≡ ((T.tests route.now.tests.now).takes head.now.walk.now head.now.var (pairs_in route.now.naming.now) cursor.old.slots.items && (T.tests route.now.tests.now).holds (node_of (tree_of head.now.body.now)) (pairs_in route.now.naming.now) cursor.old.slots.items) }
+    ensures slots { cursor.new.slots.items ≡ cursor.old.slots.items }
+    ensures size { HasRoom cursor.new (T.room route.now.tests.now) }
 {
-    route
-        .tests
-        .takes(head.walk, head.var, route.naming, slots, values)
-        && route.tests.holds(head.body, route.naming, slots, values)
+    route.tests.takes(head.walk, head.var, route.naming, cursor)
+        && route.tests.holds(head.body, route.naming, cursor)
 }
 
 /// Whether a substituted loop has a valid value. The slots stay.
-fn has_lane<T: Testing>(
-    head: &Head,
-    extent: u32,
-    route: &Route<T>,
-    slots: &mut [u32],
-    values: &mut [Option<u32>],
-) -> bool
+fn has_lane<T: Testing>(head: &Head, extent: u32, route: &Route<T>, cursor: &mut Cursor) -> bool
     requires ready { T.ready route.now.tests.now }
-    requires room { head.now.var < length slots.old }
-    requires zero { slice_index slots.old head.now.var ≡ 0 }
-    requires slots { length slots.old ≡ T.room route.now.tests.now }
-    requires values { length values.old ≡ T.room route.now.tests.now }
-    ensures found { result ≡ list_any (is_valid (T.tests route.now.tests.now) head.now.walk.now head.now.var (node_of (tree_of head.now.body.now)) (pairs_in route.now.naming.now) slots.old) (range_with_len 0 extent) }
-    ensures slots { slots.new ≡ slots.old }
-    ensures values { length values.new ≡ length values.old }
+    requires room { head.now.var < length cursor.old.slots.items }
+    requires zero { slice_index cursor.old.slots.items head.now.var ≡ 0 }
+    requires size { HasRoom cursor.old (T.room route.now.tests.now) }
+    ensures found { result ≡ list_any (is_valid (T.tests route.now.tests.now) head.now.walk.now head.now.var (node_of (tree_of head.now.body.now)) (pairs_in route.now.naming.now) cursor.old.slots.items) (range_with_len 0 extent) }
+    ensures slots { cursor.new.slots.items ≡ cursor.old.slots.items }
+    ensures size { HasRoom cursor.new (T.room route.now.tests.now) }
 {
     let at = head.var as usize;
     for x in 0..extent {
-        slots[at] = x;
-        let valid = is_lane(head, route, slots, values);
-        slots[at] = 0;
+        cursor.slots[at] = x;
+        let valid = is_lane(head, route, cursor);
+        cursor.slots[at] = 0;
         if valid {
             return true;
         }
@@ -158,21 +140,15 @@ fn has_lane<T: Testing>(
 
 /// Goes to the first visit of a nest on a path, or leaves the slots as they are.
 #[cycle(first)]
-pub fn first<T: Testing>(
-    nest: &Nest,
-    route: &Route<T>,
-    slots: &mut [u32],
-    values: &mut [Option<u32>],
-) -> Option<u32>
+pub fn first<T: Testing>(nest: &Nest, route: &Route<T>, cursor: &mut Cursor) -> Option<u32>
     requires ready { T.ready route.now.tests.now }
     requires few { leaf_count (tree_of nest.now) < 2 ^ 32 }
-    requires room { HaveSlots (tree_of nest.now) (length slots.old) }
-    requires zero { AreZero (tree_of nest.now) slots.old }
+    requires room { HaveSlots (tree_of nest.now) (length cursor.old.slots.items) }
+    requires zero { AreZero (tree_of nest.now) cursor.old.slots.items }
     requires path { IsPathIn (tree_of nest.now) route.now.path.now }
-    requires slots { length slots.old ≡ T.room route.now.tests.now }
-    requires values { length values.old ≡ T.room route.now.tests.now }
-    ensures finds { Finds (T.tests route.now.tests.now) (tree_of nest.now) (pairs_in route.now.naming.now) route.now.path.now slots.old slots.new result }
-    ensures values { length values.new ≡ length values.old }
+    requires size { HasRoom cursor.old (T.room route.now.tests.now) }
+    ensures finds { Finds (T.tests route.now.tests.now) (tree_of nest.now) (pairs_in route.now.naming.now) route.now.path.now cursor.old.slots.items cursor.new.slots.items result }
+    ensures size { HasRoom cursor.new (T.room route.now.tests.now) }
 {
     match nest {
         Nest::Loop {
@@ -186,7 +162,7 @@ pub fn first<T: Testing>(
                 walk,
                 body: &**body,
             };
-            first_in_loop(&head, *extent, route, slots, values)
+            first_in_loop(&head, *extent, route, cursor)
         }
         Nest::Pre {
             pairs,
@@ -199,9 +175,9 @@ pub fn first<T: Testing>(
                 producer: &**producer,
                 consumer: &**consumer,
             };
-            first_in_branches(&branches, route, slots, values)
+            first_in_branches(&branches, route, cursor)
         }
-        Nest::Leaf { .. } => if route.tests.holds(nest, route.naming, slots, values) {
+        Nest::Leaf { .. } => if route.tests.holds(nest, route.naming, cursor) {
             Some(0)
         } else {
             None
@@ -215,35 +191,33 @@ fn first_in_loop<T: Testing>(
     head: &Head,
     extent: u32,
     route: &Route<T>,
-    slots: &mut [u32],
-    values: &mut [Option<u32>],
+    cursor: &mut Cursor,
 ) -> Option<u32>
     requires ready { T.ready route.now.tests.now }
     requires few { leaf_count (tree_of head.now.body.now) < 2 ^ 32 }
-    requires room { HaveSlots (Loop head.now.var extent head.now.walk.now (tree_of head.now.body.now)) (length slots.old) }
-    requires zero { AreZero (Loop head.now.var extent head.now.walk.now (tree_of head.now.body.now)) slots.old }
+    requires room { HaveSlots (Loop head.now.var extent head.now.walk.now (tree_of head.now.body.now)) (length cursor.old.slots.items) }
+    requires zero { AreZero (Loop head.now.var extent head.now.walk.now (tree_of head.now.body.now)) cursor.old.slots.items }
     requires path { IsPathIn (Loop head.now.var extent head.now.walk.now (tree_of head.now.body.now)) route.now.path.now }
-    requires slots { length slots.old ≡ T.room route.now.tests.now }
-    requires values { length values.old ≡ T.room route.now.tests.now }
-    ensures finds { Finds (T.tests route.now.tests.now) (Loop head.now.var extent head.now.walk.now (tree_of head.now.body.now)) (pairs_in route.now.naming.now) route.now.path.now slots.old slots.new result }
-    ensures values { length values.new ≡ length values.old }
+    requires size { HasRoom cursor.old (T.room route.now.tests.now) }
+    ensures finds { Finds (T.tests route.now.tests.now) (Loop head.now.var extent head.now.walk.now (tree_of head.now.body.now)) (pairs_in route.now.naming.now) route.now.path.now cursor.old.slots.items cursor.new.slots.items result }
+    ensures size { HasRoom cursor.new (T.room route.now.tests.now) }
 {
     if has_kernel(head.body) {
-        return if has_lane(head, extent, route, slots, values) {
+        return if has_lane(head, extent, route, cursor) {
             Some(0)
         } else {
             None
         };
     }
     match route.path.split_first() {
-        None => first_from(head, route, 0, extent, slots, values),
+        None => first_from(head, route, 0, extent, cursor),
         Some((x, rest)) => {
             let below = Route {
                 tests: route.tests,
                 naming: route.naming,
                 path: rest,
             };
-            first_from(head, &below, *x, *x + 1, slots, values)
+            first_from(head, &below, *x, *x + 1, cursor)
         }
     }
 }
@@ -253,17 +227,15 @@ fn first_in_loop<T: Testing>(
 fn first_in_branches<T: Testing>(
     branches: &Branches,
     route: &Route<T>,
-    slots: &mut [u32],
-    values: &mut [Option<u32>],
+    cursor: &mut Cursor,
 ) -> Option<u32>
     requires ready { T.ready route.now.tests.now }
     requires few { leaf_count (tree_of branches.now.producer.now) + leaf_count (tree_of branches.now.consumer.now) < 2 ^ 32 }
-    requires room { HaveSlots (Pre 0 branches.now.pairs.now (tree_of branches.now.producer.now) (tree_of branches.now.consumer.now)) (length slots.old) }
-    requires zero { AreZero (Pre 0 branches.now.pairs.now (tree_of branches.now.producer.now) (tree_of branches.now.consumer.now)) slots.old }
-    requires slots { length slots.old ≡ T.room route.now.tests.now }
-    requires values { length values.old ≡ T.room route.now.tests.now }
-    ensures finds { (work : ℕ) → Finds (T.tests route.now.tests.now) (Pre work branches.now.pairs.now (tree_of branches.now.producer.now) (tree_of branches.now.consumer.now)) (pairs_in route.now.naming.now) route.now.path.now slots.old slots.new result }
-    ensures values { length values.new ≡ length values.old }
+    requires room { HaveSlots (Pre 0 branches.now.pairs.now (tree_of branches.now.producer.now) (tree_of branches.now.consumer.now)) (length cursor.old.slots.items) }
+    requires zero { AreZero (Pre 0 branches.now.pairs.now (tree_of branches.now.producer.now) (tree_of branches.now.consumer.now)) cursor.old.slots.items }
+    requires size { HasRoom cursor.old (T.room route.now.tests.now) }
+    ensures finds { (work : ℕ) → Finds (T.tests route.now.tests.now) (Pre work branches.now.pairs.now (tree_of branches.now.producer.now) (tree_of branches.now.consumer.now)) (pairs_in route.now.naming.now) route.now.path.now cursor.old.slots.items cursor.new.slots.items result }
+    ensures size { HasRoom cursor.new (T.room route.now.tests.now) }
 {
     let inner = Naming::Under(branches.pairs, route.naming);
     let inside = Route {
@@ -271,7 +243,7 @@ fn first_in_branches<T: Testing>(
         naming: &inner,
         path: &[],
     };
-    if let Some(leaf) = first(branches.producer, &inside, slots, values) {
+    if let Some(leaf) = first(branches.producer, &inside, cursor) {
         return Some(leaf);
     }
     let outside = Route {
@@ -279,7 +251,7 @@ fn first_in_branches<T: Testing>(
         naming: route.naming,
         path: &[],
     };
-    match first(branches.consumer, &outside, slots, values) {
+    match first(branches.consumer, &outside, cursor) {
         None => None,
         Some(leaf) => Some(leaves(branches.producer) + leaf),
     }
@@ -287,27 +259,18 @@ fn first_in_branches<T: Testing>(
 
 /// Goes to the first visit at the value that a loop's slot has, or leaves the slots as they are.
 #[cycle(first)]
-fn enter<T: Testing>(
-    head: &Head,
-    route: &Route<T>,
-    slots: &mut [u32],
-    values: &mut [Option<u32>],
-) -> Option<u32>
+fn enter<T: Testing>(head: &Head, route: &Route<T>, cursor: &mut Cursor) -> Option<u32>
     requires ready { T.ready route.now.tests.now }
     requires few { leaf_count (tree_of head.now.body.now) < 2 ^ 32 }
-    requires room { HaveSlots (tree_of head.now.body.now) (length slots.old) }
-    requires zero { AreZero (tree_of head.now.body.now) slots.old }
+    requires room { HaveSlots (tree_of head.now.body.now) (length cursor.old.slots.items) }
+    requires zero { AreZero (tree_of head.now.body.now) cursor.old.slots.items }
     requires path { IsPathIn (tree_of head.now.body.now) route.now.path.now }
-    requires slots { length slots.old ≡ T.room route.now.tests.now }
-    requires values { length values.old ≡ T.room route.now.tests.now }
-    ensures enters { Enters (T.tests route.now.tests.now) head.now.walk.now head.now.var (tree_of head.now.body.now) (pairs_in route.now.naming.now) route.now.path.now slots.old slots.new result }
-    ensures values { length values.new ≡ length values.old }
+    requires size { HasRoom cursor.old (T.room route.now.tests.now) }
+    ensures enters { Enters (T.tests route.now.tests.now) head.now.walk.now head.now.var (tree_of head.now.body.now) (pairs_in route.now.naming.now) route.now.path.now cursor.old.slots.items cursor.new.slots.items result }
+    ensures size { HasRoom cursor.new (T.room route.now.tests.now) }
 {
-    if route
-        .tests
-        .takes(head.walk, head.var, route.naming, slots, values)
-    {
-        first(head.body, route, slots, values)
+    if route.tests.takes(head.walk, head.var, route.naming, cursor) {
+        first(head.body, route, cursor)
     } else {
         None
     }
@@ -320,26 +283,24 @@ fn first_from<T: Testing>(
     route: &Route<T>,
     from: u32,
     to: u32,
-    slots: &mut [u32],
-    values: &mut [Option<u32>],
+    cursor: &mut Cursor,
 ) -> Option<u32>
     requires ready { T.ready route.now.tests.now }
     requires few { leaf_count (tree_of head.now.body.now) < 2 ^ 32 }
-    requires room { HaveSlots (Loop head.now.var to head.now.walk.now (tree_of head.now.body.now)) (length slots.old) }
-    requires zero { AreZero (Loop head.now.var to head.now.walk.now (tree_of head.now.body.now)) slots.old }
+    requires room { HaveSlots (Loop head.now.var to head.now.walk.now (tree_of head.now.body.now)) (length cursor.old.slots.items) }
+    requires zero { AreZero (Loop head.now.var to head.now.walk.now (tree_of head.now.body.now)) cursor.old.slots.items }
     requires path { IsPathIn (tree_of head.now.body.now) route.now.path.now }
-    requires slots { length slots.old ≡ T.room route.now.tests.now }
-    requires values { length values.old ≡ T.room route.now.tests.now }
-    ensures finds { FindsFrom (T.tests route.now.tests.now) head.now.walk.now head.now.var (tree_of head.now.body.now) (pairs_in route.now.naming.now) route.now.path.now from to slots.old slots.new result }
-    ensures values { length values.new ≡ length values.old }
+    requires size { HasRoom cursor.old (T.room route.now.tests.now) }
+    ensures finds { FindsFrom (T.tests route.now.tests.now) head.now.walk.now head.now.var (tree_of head.now.body.now) (pairs_in route.now.naming.now) route.now.path.now from to cursor.old.slots.items cursor.new.slots.items result }
+    ensures size { HasRoom cursor.new (T.room route.now.tests.now) }
 {
     let at = head.var as usize;
     for i in from..to {
-        slots[at] = i;
-        if let Some(leaf) = enter(head, route, slots, values) {
+        cursor.slots[at] = i;
+        if let Some(leaf) = enter(head, route, cursor) {
             return Some(leaf);
         }
-        slots[at] = 0;
+        cursor.slots[at] = 0;
     }
     None
 }
@@ -371,18 +332,16 @@ pub fn next_visit<T: Testing>(
     nest: &Nest,
     route: &Route<T>,
     leaf: u32,
-    slots: &mut [u32],
-    values: &mut [Option<u32>],
+    cursor: &mut Cursor,
 ) -> Option<Stand>
     requires ready { T.ready route.now.tests.now }
     requires few { leaf_count (tree_of nest.now) < 2 ^ 32 }
-    requires room { HaveSlots (tree_of nest.now) (length slots.old) }
-    requires stands { IsAt (tree_of nest.now) slots.old leaf }
+    requires room { HaveSlots (tree_of nest.now) (length cursor.old.slots.items) }
+    requires stands { IsAt (tree_of nest.now) cursor.old.slots.items leaf }
     requires path { IsPathIn (tree_of nest.now) route.now.path.now }
-    requires slots { length slots.old ≡ T.room route.now.tests.now }
-    requires values { length values.old ≡ T.room route.now.tests.now }
-    ensures steps { Steps (T.tests route.now.tests.now) (tree_of nest.now) (pairs_in route.now.naming.now) route.now.path.now leaf slots.old slots.new result }
-    ensures values { length values.new ≡ length values.old }
+    requires size { HasRoom cursor.old (T.room route.now.tests.now) }
+    ensures steps { Steps (T.tests route.now.tests.now) (tree_of nest.now) (pairs_in route.now.naming.now) route.now.path.now leaf cursor.old.slots.items cursor.new.slots.items result }
+    ensures size { HasRoom cursor.new (T.room route.now.tests.now) }
 {
     match nest {
         Nest::Loop {
@@ -396,7 +355,7 @@ pub fn next_visit<T: Testing>(
                 walk,
                 body: &**body,
             };
-            next_in_loop(&head, *extent, route, leaf, slots, values)
+            next_in_loop(&head, *extent, route, leaf, cursor)
         }
         Nest::Pre {
             pairs,
@@ -410,9 +369,9 @@ pub fn next_visit<T: Testing>(
                 consumer: &**consumer,
             };
             if leaf < leaves(branches.producer) {
-                next_in_producer(&branches, route, leaf, slots, values)
+                next_in_producer(&branches, route, leaf, cursor)
             } else {
-                next_in_consumer(&branches, route, leaf, slots, values)
+                next_in_consumer(&branches, route, leaf, cursor)
             }
         }
         Nest::Leaf { .. } => None,
@@ -426,34 +385,32 @@ fn next_in_loop<T: Testing>(
     extent: u32,
     route: &Route<T>,
     leaf: u32,
-    slots: &mut [u32],
-    values: &mut [Option<u32>],
+    cursor: &mut Cursor,
 ) -> Option<Stand>
     requires ready { T.ready route.now.tests.now }
     requires few { leaf_count (tree_of head.now.body.now) < 2 ^ 32 }
-    requires room { HaveSlots (Loop head.now.var extent head.now.walk.now (tree_of head.now.body.now)) (length slots.old) }
-    requires stands { IsAt (Loop head.now.var extent head.now.walk.now (tree_of head.now.body.now)) slots.old leaf }
+    requires room { HaveSlots (Loop head.now.var extent head.now.walk.now (tree_of head.now.body.now)) (length cursor.old.slots.items) }
+    requires stands { IsAt (Loop head.now.var extent head.now.walk.now (tree_of head.now.body.now)) cursor.old.slots.items leaf }
     requires path { IsPathIn (Loop head.now.var extent head.now.walk.now (tree_of head.now.body.now)) route.now.path.now }
-    requires slots { length slots.old ≡ T.room route.now.tests.now }
-    requires values { length values.old ≡ T.room route.now.tests.now }
-    ensures steps { Steps (T.tests route.now.tests.now) (Loop head.now.var extent head.now.walk.now (tree_of head.now.body.now)) (pairs_in route.now.naming.now) route.now.path.now leaf slots.old slots.new result }
-    ensures values { length values.new ≡ length values.old }
+    requires size { HasRoom cursor.old (T.room route.now.tests.now) }
+    ensures steps { Steps (T.tests route.now.tests.now) (Loop head.now.var extent head.now.walk.now (tree_of head.now.body.now)) (pairs_in route.now.naming.now) route.now.path.now leaf cursor.old.slots.items cursor.new.slots.items result }
+    ensures size { HasRoom cursor.new (T.room route.now.tests.now) }
 {
     if has_kernel(head.body) {
         return None;
     }
-    let x = slots[head.var as usize];
+    let x = cursor.slots[head.var as usize];
     let below = Route {
         tests: route.tests,
         naming: route.naming,
         path: below_first(route.path),
     };
-    if let Some(stand) = next_visit(head.body, &below, leaf, slots, values) {
+    if let Some(stand) = next_visit(head.body, &below, leaf, cursor) {
         return Some(stand);
     }
-    slots[head.var as usize] = 0;
+    cursor.slots[head.var as usize] = 0;
     let to = end_of(route.path, extent, x);
-    match first_from(head, &below, x + 1, to, slots, values) {
+    match first_from(head, &below, x + 1, to, cursor) {
         None => None,
         Some(leaf) => Some(Stand { leaf, past: 0 }),
     }
@@ -465,18 +422,16 @@ fn next_in_producer<T: Testing>(
     branches: &Branches,
     route: &Route<T>,
     leaf: u32,
-    slots: &mut [u32],
-    values: &mut [Option<u32>],
+    cursor: &mut Cursor,
 ) -> Option<Stand>
     requires ready { T.ready route.now.tests.now }
     requires few { leaf_count (tree_of branches.now.producer.now) + leaf_count (tree_of branches.now.consumer.now) < 2 ^ 32 }
-    requires room { HaveSlots (Pre 0 branches.now.pairs.now (tree_of branches.now.producer.now) (tree_of branches.now.consumer.now)) (length slots.old) }
-    requires stands { IsAt (Pre 0 branches.now.pairs.now (tree_of branches.now.producer.now) (tree_of branches.now.consumer.now)) slots.old leaf }
+    requires room { HaveSlots (Pre 0 branches.now.pairs.now (tree_of branches.now.producer.now) (tree_of branches.now.consumer.now)) (length cursor.old.slots.items) }
+    requires stands { IsAt (Pre 0 branches.now.pairs.now (tree_of branches.now.producer.now) (tree_of branches.now.consumer.now)) cursor.old.slots.items leaf }
     requires inside { leaf < leaf_count (tree_of branches.now.producer.now) }
-    requires slots { length slots.old ≡ T.room route.now.tests.now }
-    requires values { length values.old ≡ T.room route.now.tests.now }
-    ensures steps { (work : ℕ) → Steps (T.tests route.now.tests.now) (Pre work branches.now.pairs.now (tree_of branches.now.producer.now) (tree_of branches.now.consumer.now)) (pairs_in route.now.naming.now) route.now.path.now leaf slots.old slots.new result }
-    ensures values { length values.new ≡ length values.old }
+    requires size { HasRoom cursor.old (T.room route.now.tests.now) }
+    ensures steps { (work : ℕ) → Steps (T.tests route.now.tests.now) (Pre work branches.now.pairs.now (tree_of branches.now.producer.now) (tree_of branches.now.consumer.now)) (pairs_in route.now.naming.now) route.now.path.now leaf cursor.old.slots.items cursor.new.slots.items result }
+    ensures size { HasRoom cursor.new (T.room route.now.tests.now) }
 {
     let inner = Naming::Under(branches.pairs, route.naming);
     let inside = Route {
@@ -484,7 +439,7 @@ fn next_in_producer<T: Testing>(
         naming: &inner,
         path: &[],
     };
-    if let Some(stand) = next_visit(branches.producer, &inside, leaf, slots, values) {
+    if let Some(stand) = next_visit(branches.producer, &inside, leaf, cursor) {
         return Some(Stand {
             leaf: stand.leaf,
             past: stand.past + 1,
@@ -495,7 +450,7 @@ fn next_in_producer<T: Testing>(
         naming: route.naming,
         path: &[],
     };
-    match first(branches.consumer, &outside, slots, values) {
+    match first(branches.consumer, &outside, cursor) {
         None => None,
         Some(leaf) => Some(Stand {
             leaf: leaves(branches.producer) + leaf,
@@ -510,18 +465,16 @@ fn next_in_consumer<T: Testing>(
     branches: &Branches,
     route: &Route<T>,
     leaf: u32,
-    slots: &mut [u32],
-    values: &mut [Option<u32>],
+    cursor: &mut Cursor,
 ) -> Option<Stand>
     requires ready { T.ready route.now.tests.now }
     requires few { leaf_count (tree_of branches.now.producer.now) + leaf_count (tree_of branches.now.consumer.now) < 2 ^ 32 }
-    requires room { HaveSlots (Pre 0 branches.now.pairs.now (tree_of branches.now.producer.now) (tree_of branches.now.consumer.now)) (length slots.old) }
-    requires stands { IsAt (Pre 0 branches.now.pairs.now (tree_of branches.now.producer.now) (tree_of branches.now.consumer.now)) slots.old leaf }
+    requires room { HaveSlots (Pre 0 branches.now.pairs.now (tree_of branches.now.producer.now) (tree_of branches.now.consumer.now)) (length cursor.old.slots.items) }
+    requires stands { IsAt (Pre 0 branches.now.pairs.now (tree_of branches.now.producer.now) (tree_of branches.now.consumer.now)) cursor.old.slots.items leaf }
     requires inside { leaf_count (tree_of branches.now.producer.now) ≤ leaf }
-    requires slots { length slots.old ≡ T.room route.now.tests.now }
-    requires values { length values.old ≡ T.room route.now.tests.now }
-    ensures steps { (work : ℕ) → Steps (T.tests route.now.tests.now) (Pre work branches.now.pairs.now (tree_of branches.now.producer.now) (tree_of branches.now.consumer.now)) (pairs_in route.now.naming.now) route.now.path.now leaf slots.old slots.new result }
-    ensures values { length values.new ≡ length values.old }
+    requires size { HasRoom cursor.old (T.room route.now.tests.now) }
+    ensures steps { (work : ℕ) → Steps (T.tests route.now.tests.now) (Pre work branches.now.pairs.now (tree_of branches.now.producer.now) (tree_of branches.now.consumer.now)) (pairs_in route.now.naming.now) route.now.path.now leaf cursor.old.slots.items cursor.new.slots.items result }
+    ensures size { HasRoom cursor.new (T.room route.now.tests.now) }
 {
     let count = leaves(branches.producer);
     let outside = Route {
@@ -529,7 +482,7 @@ fn next_in_consumer<T: Testing>(
         naming: route.naming,
         path: &[],
     };
-    match next_visit(branches.consumer, &outside, leaf - count, slots, values) {
+    match next_visit(branches.consumer, &outside, leaf - count, cursor) {
         None => None,
         Some(stand) => Some(Stand {
             leaf: count + stand.leaf,

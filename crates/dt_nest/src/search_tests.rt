@@ -6,6 +6,7 @@ ghost use Rattle.dt_nest.specs.Tree.{tree_of, leaf_count};
 ghost use Rattle.dt_nest.specs.Search.{AreApart, HaveSlots, Lacks};
 ghost use Rattle.dt_nest.specs.Visits.{IsPathIn};
 
+use crate::cursor::Cursor;
 use crate::loops::{Kernel, Nest, Pair, Pairs, Walk};
 use crate::naming::Naming;
 use crate::search::{Route, Testing, first, has_kernel, next_visit};
@@ -39,24 +40,12 @@ impl Testing for Rule {
 
     ghost room = { λ r. 3 };
 
-    fn takes(
-        &self,
-        walk: &Option<Walk>,
-        var: u32,
-        _naming: &Naming,
-        slots: &[u32],
-        _values: &mut [Option<u32>],
-    ) -> bool {
-        walk.is_none() || slot(slots, var) % 2 == 1
+    fn takes(&self, walk: &Option<Walk>, var: u32, _naming: &Naming, cursor: &mut Cursor) -> bool {
+        walk.is_none() || slot(cursor.slots.as_slice(), var) % 2 == 1
     }
 
-    fn holds(
-        &self,
-        _leaf: &Nest,
-        _naming: &Naming,
-        slots: &[u32],
-        _values: &mut [Option<u32>],
-    ) -> bool {
+    fn holds(&self, _leaf: &Nest, _naming: &Naming, cursor: &mut Cursor) -> bool {
+        let slots = cursor.slots.as_slice();
         2 * u64::from(slot(slots, 0)) + u64::from(slot(slots, 1)) < u64::from(self.limit)
     }
 }
@@ -149,6 +138,12 @@ struct Seen {
     slots: [u32; 3],
 }
 
+/// The slots of three loops.
+fn slots_of(cursor: &Cursor) -> [u32; 3] {
+    let slots = cursor.slots.as_slice();
+    [slot(slots, 0), slot(slots, 1), slot(slots, 2)]
+}
+
 /// The first visits of a nest of three loops at most.
 fn visits_seen(
     rt: &impl Abort,
@@ -161,32 +156,31 @@ fn visits_seen(
     assert!(rt; count > 0);
     assert!(rt; have_slots(nest, 3));
     assert!(rt; is_path(nest, path));
-    let mut slots = [0u32; 3];
-    let mut values = [None; 3];
+    let mut cursor = Cursor::of(alloc, 3)?;
     let mut list = Vec::new(alloc);
     let route = Route {
         tests: rule,
         naming: &Naming::Root,
         path,
     };
-    let mut leaf = match first(nest, &route, &mut slots, &mut values) {
+    let mut leaf = match first(nest, &route, &mut cursor) {
         None => return Ok(list),
         Some(leaf) => leaf,
     };
     list.push(Seen {
         leaf,
         past: 0,
-        slots,
+        slots: slots_of(&cursor),
     })?;
     for _ in 0..16 {
-        match next_visit(nest, &route, leaf, &mut slots, &mut values) {
+        match next_visit(nest, &route, leaf, &mut cursor) {
             None => return Ok(list),
             Some(stand) => {
                 leaf = stand.leaf;
                 list.push(Seen {
                     leaf,
                     past: stand.past,
-                    slots,
+                    slots: slots_of(&cursor),
                 })?;
             }
         }

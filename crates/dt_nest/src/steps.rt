@@ -5,6 +5,7 @@ ghost use Rattle.dt_nest.specs.Schedule.{seen};
 ghost use Rattle.dt_nest.specs.Tree.{tree_of};
 ghost use Rattle.dt_nest.specs.World.{world_of};
 ghost use Rattle.dt_nest.specs.Lawful.{IsLawful};
+ghost use Rattle.dt_nest.specs.Cursor.{HasRoom};
 ghost use Rattle.dt_nest.specs.Search.{pairs_at};
 ghost use Rattle.dt_nest.specs.declared.progress.Progress.TheVariants.{On};
 ghost use Rattle.dt_nest.specs.ValueTables.{IsLeafTable, IsTable};
@@ -13,6 +14,7 @@ ghost use Rattle.dt_nest.specs.InnerLoops.{AreInnerLoops};
 ghost use Rattle.dt_nest.specs.Run.{CanGoOn, IsSound, Moves, left_of, run_tests};
 
 use crate::conditions::Conditions;
+use crate::cursor::Cursor;
 use crate::guards::hold;
 use crate::inner_loops::{InnerLoops, turn};
 use crate::naming::{Naming, Unrenamed};
@@ -27,22 +29,21 @@ pub fn stepped<L: Locator>(
     path: &[u32],
     inner_loops: &InnerLoops,
     progress: Progress,
-    slots: &mut [u32],
-    values: &mut [Option<u32>],
+    cursor: &mut Cursor,
 ) -> Progress
-    requires sound { IsSound (L.tensors conditions.now.loc.now) (seen conditions.now.parts.now) path.now slots.old progress }
-    requires kept { IsKept (L.tensors conditions.now.loc.now) (seen conditions.now.parts.now) path.now slots.old progress inner_loops.now values.old }
-    ensures sound { IsSound (L.tensors conditions.now.loc.now) (seen conditions.now.parts.now) path.now slots.new result }
-    ensures moves { Moves (run_tests (L.tensors conditions.now.loc.now) (seen conditions.now.parts.now)) (tree_of conditions.now.parts.now.nest) path.now (left_of (run_tests (L.tensors conditions.now.loc.now) (seen conditions.now.parts.now)) (tree_of conditions.now.parts.now.nest) path.now slots.old progress) slots.new result }
-    ensures kept { IsKept (L.tensors conditions.now.loc.now) (seen conditions.now.parts.now) path.now slots.new result inner_loops.now values.new }
+    requires sound { IsSound (L.tensors conditions.now.loc.now) (seen conditions.now.parts.now) path.now cursor.old.slots.items progress }
+    requires kept { IsKept (L.tensors conditions.now.loc.now) (seen conditions.now.parts.now) path.now cursor.old.slots.items progress inner_loops.now cursor.old.values.items }
+    ensures sound { IsSound (L.tensors conditions.now.loc.now) (seen conditions.now.parts.now) path.now cursor.new.slots.items result }
+    ensures moves { Moves (run_tests (L.tensors conditions.now.loc.now) (seen conditions.now.parts.now)) (tree_of conditions.now.parts.now.nest) path.now (left_of (run_tests (L.tensors conditions.now.loc.now) (seen conditions.now.parts.now)) (tree_of conditions.now.parts.now.nest) path.now cursor.old.slots.items progress) cursor.new.slots.items result }
+    ensures kept { IsKept (L.tensors conditions.now.loc.now) (seen conditions.now.parts.now) path.now cursor.new.slots.items result inner_loops.now cursor.new.values.items }
 {
     if !progress.is_on(inner_loops.leaf) {
-        return searched(conditions, path, inner_loops, progress, slots, values);
+        return searched(conditions, path, inner_loops, progress, cursor);
     }
-    if turned(conditions, path, inner_loops, slots, values) {
+    if turned(conditions, path, inner_loops, cursor) {
         return progress;
     }
-    searched(conditions, path, inner_loops, progress, slots, values)
+    searched(conditions, path, inner_loops, progress, cursor)
 }
 
 /// Goes on to the next item by a search.
@@ -51,41 +52,35 @@ fn searched<L: Locator>(
     path: &[u32],
     inner_loops: &InnerLoops,
     progress: Progress,
-    slots: &mut [u32],
-    values: &mut [Option<u32>],
+    cursor: &mut Cursor,
 ) -> Progress
-    requires on { CanGoOn (L.tensors conditions.now.loc.now) (seen conditions.now.parts.now) path.now slots.old progress }
+    requires on { CanGoOn (L.tensors conditions.now.loc.now) (seen conditions.now.parts.now) path.now cursor.old.slots.items progress }
     requires inner_loops { AreInnerLoops (seen conditions.now.parts.now) path.now inner_loops.now }
-    requires values { length values.old ≡ length conditions.now.parts.now.names }
-    ensures sound { IsSound (L.tensors conditions.now.loc.now) (seen conditions.now.parts.now) path.now slots.new result }
-    ensures moves { Moves (run_tests (L.tensors conditions.now.loc.now) (seen conditions.now.parts.now)) (tree_of conditions.now.parts.now.nest) path.now (left_of (run_tests (L.tensors conditions.now.loc.now) (seen conditions.now.parts.now)) (tree_of conditions.now.parts.now.nest) path.now slots.old progress) slots.new result }
-    ensures kept { IsKept (L.tensors conditions.now.loc.now) (seen conditions.now.parts.now) path.now slots.new result inner_loops.now values.new }
+    requires size { HasRoom cursor.old (length conditions.now.parts.now.names) }
+    ensures sound { IsSound (L.tensors conditions.now.loc.now) (seen conditions.now.parts.now) path.now cursor.new.slots.items result }
+    ensures moves { Moves (run_tests (L.tensors conditions.now.loc.now) (seen conditions.now.parts.now)) (tree_of conditions.now.parts.now.nest) path.now (left_of (run_tests (L.tensors conditions.now.loc.now) (seen conditions.now.parts.now)) (tree_of conditions.now.parts.now.nest) path.now cursor.old.slots.items progress) cursor.new.slots.items result }
+    ensures kept { IsKept (L.tensors conditions.now.loc.now) (seen conditions.now.parts.now) path.now cursor.new.slots.items result inner_loops.now cursor.new.values.items }
 {
-    let next = advanced(conditions, path, progress, slots, values);
-    tabulate_visit(conditions, next, slots, values);
+    let next = advanced(conditions, path, progress, cursor);
+    tabulate_visit(conditions, next, cursor);
     next
 }
 
 /// Makes the values of all variables, where the run stands on a leaf.
-fn tabulate_visit<L: Locator>(
-    conditions: &Conditions<L>,
-    progress: Progress,
-    slots: &[u32],
-    values: &mut [Option<u32>],
-)
+fn tabulate_visit<L: Locator>(conditions: &Conditions<L>, progress: Progress, cursor: &mut Cursor)
     requires lawful { IsLawful (seen conditions.now.parts.now) }
     requires tensors { length (L.tensors conditions.now.loc.now) ≡ length conditions.now.parts.now.tensors }
-    requires room { length slots.now ≡ length conditions.now.parts.now.names }
-    requires values { length values.old ≡ length conditions.now.parts.now.names }
-    ensures table { (leaf : ℕ) → progress ≡ On leaf → IsLeafTable (world_of (L.tensors conditions.now.loc.now) (seen conditions.now.parts.now)) conditions.now.parts.now.derived [] (pairs_at (tree_of conditions.now.parts.now.nest) leaf) slots.now values.new }
-    ensures values { length values.new ≡ length values.old }
+    requires size { HasRoom cursor.old (length conditions.now.parts.now.names) }
+    ensures table { (leaf : ℕ) → progress ≡ On leaf → IsLeafTable (world_of (L.tensors conditions.now.loc.now) (seen conditions.now.parts.now)) conditions.now.parts.now.derived [] (pairs_at (tree_of conditions.now.parts.now.nest) leaf) cursor.old.slots.items cursor.new.values.items }
+    ensures slots { cursor.new.slots.items ≡ cursor.old.slots.items }
+    ensures size { HasRoom cursor.new (length conditions.now.parts.now.names) }
 {
     match progress {
         Progress::Before => {}
         Progress::Resetting { .. } => {}
         Progress::On { leaf } => {
             let nest = &conditions.parts.nest;
-            tabulate_leaf(nest, &Naming::Root, conditions, leaf, slots, values);
+            tabulate_leaf(nest, &Naming::Root, conditions, leaf, cursor);
         }
         Progress::Done => {}
     }
@@ -96,20 +91,18 @@ fn turned<L: Locator>(
     conditions: &Conditions<L>,
     path: &[u32],
     inner_loops: &InnerLoops,
-    slots: &mut [u32],
-    values: &mut [Option<u32>],
+    cursor: &mut Cursor,
 ) -> bool
-    requires on { CanGoOn (L.tensors conditions.now.loc.now) (seen conditions.now.parts.now) path.now slots.old (On inner_loops.now.leaf) }
+    requires on { CanGoOn (L.tensors conditions.now.loc.now) (seen conditions.now.parts.now) path.now cursor.old.slots.items (On inner_loops.now.leaf) }
     requires inner_loops { AreInnerLoops (seen conditions.now.parts.now) path.now inner_loops.now }
-    requires values { length values.old ≡ length conditions.now.parts.now.names }
-    requires table { IsTable (world_of (L.tensors conditions.now.loc.now) (seen conditions.now.parts.now)) conditions.now.parts.now.derived (λ u. u) slots.old values.old }
-    ensures turns { TurnIs (L.tensors conditions.now.loc.now) (seen conditions.now.parts.now) path.now inner_loops.now slots.old slots.new result }
-    ensures table { IsTable (world_of (L.tensors conditions.now.loc.now) (seen conditions.now.parts.now)) conditions.now.parts.now.derived (λ u. u) slots.new values.new }
-    ensures room { length slots.new ≡ length slots.old }
-    ensures values { length values.new ≡ length values.old }
+    requires size { HasRoom cursor.old (length conditions.now.parts.now.names) }
+    requires table { IsTable (world_of (L.tensors conditions.now.loc.now) (seen conditions.now.parts.now)) conditions.now.parts.now.derived (λ u. u) cursor.old.slots.items cursor.old.values.items }
+    ensures turns { TurnIs (L.tensors conditions.now.loc.now) (seen conditions.now.parts.now) path.now inner_loops.now cursor.old.slots.items cursor.new.slots.items result }
+    ensures table { IsTable (world_of (L.tensors conditions.now.loc.now) (seen conditions.now.parts.now)) conditions.now.parts.now.derived (λ u. u) cursor.new.slots.items cursor.new.values.items }
+    ensures size { HasRoom cursor.new (length conditions.now.parts.now.names) }
 {
     for _ in 0..u32::MAX {
-        match step(conditions, inner_loops, slots, values) {
+        match step(conditions, inner_loops, cursor) {
             Outcome::Comes => return true,
             Outcome::Passes => {}
             Outcome::Ends => return false,
@@ -130,28 +123,31 @@ enum Outcome {
 fn step<L: Locator>(
     conditions: &Conditions<L>,
     inner_loops: &InnerLoops,
-    slots: &mut [u32],
-    values: &mut [Option<u32>],
+    cursor: &mut Cursor,
 ) -> Outcome
     requires lawful { IsLawful (seen conditions.now.parts.now) }
     requires tensors { length (L.tensors conditions.now.loc.now) ≡ length conditions.now.parts.now.tensors }
     requires turn { CanTurn (seen conditions.now.parts.now) inner_loops.now }
-    requires room { length slots.old ≡ length conditions.now.parts.now.names }
-    requires values { length values.old ≡ length conditions.now.parts.now.names }
-    requires table { IsTable (world_of (L.tensors conditions.now.loc.now) (seen conditions.now.parts.now)) conditions.now.parts.now.derived (λ u. u) slots.old values.old }
-    ensures steps { StepIs (run_tests (L.tensors conditions.now.loc.now) (seen conditions.now.parts.now)) (tree_of conditions.now.parts.now.nest) inner_loops.now slots.old slots.new result }
-    ensures table { IsTable (world_of (L.tensors conditions.now.loc.now) (seen conditions.now.parts.now)) conditions.now.parts.now.derived (λ u. u) slots.new values.new }
-    ensures room { length slots.new ≡ length slots.old }
-    ensures values { length values.new ≡ length values.old }
+    requires size { HasRoom cursor.old (length conditions.now.parts.now.names) }
+    requires table { IsTable (world_of (L.tensors conditions.now.loc.now) (seen conditions.now.parts.now)) conditions.now.parts.now.derived (λ u. u) cursor.old.slots.items cursor.old.values.items }
+    ensures steps { StepIs (run_tests (L.tensors conditions.now.loc.now) (seen conditions.now.parts.now)) (tree_of conditions.now.parts.now.nest) inner_loops.now cursor.old.slots.items cursor.new.slots.items result }
+    ensures table { IsTable (world_of (L.tensors conditions.now.loc.now) (seen conditions.now.parts.now)) conditions.now.parts.now.derived (λ u. u) cursor.new.slots.items cursor.new.values.items }
+    ensures size { HasRoom cursor.new (length conditions.now.parts.now.names) }
 {
-    match turn(inner_loops.items.as_slice(), slots, values) {
+    match turn(inner_loops.items.as_slice(), cursor) {
         None => Outcome::Ends,
         Some(inner_loop) => {
             let parts = conditions.parts;
             let lists = inner_loops.derived.as_slice();
             let follow = &lists[inner_loop];
-            refill(follow.as_slice(), parts, conditions.loc, values);
+            refill(
+                follow.as_slice(),
+                parts,
+                conditions.loc,
+                cursor.values.as_mut_slice(),
+            );
             let names = &Unrenamed;
+            let values = cursor.values.as_slice();
             let known = Table { names, values };
             if hold(
                 inner_loops.guards.as_slice(),

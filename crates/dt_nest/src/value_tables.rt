@@ -5,9 +5,11 @@ ghost use Rattle.dt_nest.specs.Schedule.{seen};
 ghost use Rattle.dt_nest.specs.World.{world_of};
 ghost use Rattle.dt_nest.specs.Lawful.{AreNamed, IsBounded};
 ghost use Rattle.dt_nest.specs.Values.{derived_inside, sum_inside};
+ghost use Rattle.dt_nest.specs.Cursor.{HasRoom};
 ghost use Rattle.dt_nest.specs.ValueTables.{IsTable, named, refilled, tabled};
 
 use crate::conditions::Conditions;
+use crate::cursor::Cursor;
 use crate::derivations::{Derive, Derived};
 use crate::derived_values::{coordinate, quotient, rest_of, split_value};
 use crate::naming::{Renaming, Unrenamed};
@@ -160,23 +162,29 @@ pub fn refill<L: Locator>(
     }
 }
 
-/// Makes the values of all variables, from the slots.
-pub fn tabulate<L: Locator, N: Renaming>(
-    parts: &SchedParts,
-    loc: &L,
+/// Makes the values of all variables where a cursor is.
+pub fn tabulate_cursor<L: Locator, N: Renaming>(
+    conditions: &Conditions<L>,
     names: &N,
-    slots: &[u32],
-    values: &mut [Option<u32>],
+    cursor: &mut Cursor,
 )
-    requires named { AreNamed (seen parts.now) parts.now.derived }
-    requires tensors { length (L.tensors loc.now) ≡ length parts.now.tensors }
-    requires room { length slots.now ≡ length parts.now.names }
-    requires values { length values.old ≡ length parts.now.names }
-    ensures table { IsTable (world_of (L.tensors loc.now) (seen parts.now)) parts.now.derived (N.names names.now) slots.now values.new }
-    ensures values { length values.new ≡ length values.old }
+    requires named { AreNamed (seen conditions.now.parts.now) conditions.now.parts.now.derived }
+    requires tensors { length (L.tensors conditions.now.loc.now) ≡ length conditions.now.parts.now.tensors }
+    requires size { HasRoom cursor.old (length conditions.now.parts.now.names) }
+    ensures table { IsTable (world_of (L.tensors conditions.now.loc.now) (seen conditions.now.parts.now)) conditions.now.parts.now.derived (N.names names.now) cursor.old.slots.items cursor.new.values.items }
+    ensures slots { cursor.new.slots.items ≡ cursor.old.slots.items }
+    ensures size { HasRoom cursor.new (length conditions.now.parts.now.names) }
 {
-    fill_slots(slots, values);
-    fill_derived(parts.derived.as_slice(), parts, loc, names, values);
+    let parts = conditions.parts;
+    let values = cursor.values.as_mut_slice();
+    fill_slots(cursor.slots.as_slice(), values);
+    fill_derived(
+        parts.derived.as_slice(),
+        parts,
+        conditions.loc,
+        names,
+        values,
+    );
 }
 
 /// A substituted loop with one of its values.

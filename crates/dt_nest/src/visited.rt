@@ -8,6 +8,7 @@ ghost use Rattle.dt_nest.specs.Meaning.{renamed};
 ghost use Rattle.dt_nest.specs.World.{world_of};
 ghost use Rattle.dt_nest.specs.Lawful.{AreNamed, IsNamed};
 ghost use Rattle.dt_nest.specs.Naming.{pairs_in};
+ghost use Rattle.dt_nest.specs.Cursor.{HasRoom};
 ghost use Rattle.dt_nest.specs.Search.{pairs_at};
 ghost use Rattle.dt_nest.specs.ValueTables.{IsLeafTable, tabled};
 ghost use Rattle.dt_nest.specs.Values.{inside_tests};
@@ -16,10 +17,11 @@ ghost use Rattle.dt_nest.specs.Visited.{HasLaneTable, IsVisited};
 
 use crate::branches::{Substituted, leaf_of, substituted_of};
 use crate::conditions::Conditions;
+use crate::cursor::Cursor;
 use crate::loops::{Nest, Pair};
 use crate::naming::Naming;
 use crate::search::{has_kernel, leaves};
-use crate::value_tables::{Lane, tabled, tabulate, tabulate_lane};
+use crate::value_tables::{Lane, tabled, tabulate_cursor, tabulate_lane};
 use dt_model::Locator;
 
 /// A leaf, and the substituted loop around it.
@@ -77,20 +79,19 @@ pub fn tabulate_leaf<L: Locator>(
     naming: &Naming,
     conditions: &Conditions<L>,
     leaf: u32,
-    slots: &[u32],
-    values: &mut [Option<u32>],
+    cursor: &mut Cursor,
 )
     requires few { leaf_count (tree_of nest.now) < 2 ^ 32 }
     requires nest { IsNamed (seen conditions.now.parts.now) (tree_of nest.now) }
     requires named { AreNamed (seen conditions.now.parts.now) conditions.now.parts.now.derived }
     requires tensors { length (L.tensors conditions.now.loc.now) ≡ length conditions.now.parts.now.tensors }
-    requires room { length slots.now ≡ length conditions.now.parts.now.names }
-    requires values { length values.old ≡ length conditions.now.parts.now.names }
-    ensures table { IsLeafTable (world_of (L.tensors conditions.now.loc.now) (seen conditions.now.parts.now)) conditions.now.parts.now.derived (pairs_in naming.now) (pairs_at (tree_of nest.now) leaf) slots.now values.new }
-    ensures values { length values.new ≡ length values.old }
+    requires size { HasRoom cursor.old (length conditions.now.parts.now.names) }
+    ensures table { IsLeafTable (world_of (L.tensors conditions.now.loc.now) (seen conditions.now.parts.now)) conditions.now.parts.now.derived (pairs_in naming.now) (pairs_at (tree_of nest.now) leaf) cursor.old.slots.items cursor.new.values.items }
+    ensures slots { cursor.new.slots.items ≡ cursor.old.slots.items }
+    ensures size { HasRoom cursor.new (length conditions.now.parts.now.names) }
 {
     match nest {
-        Nest::Loop { body, .. } => tabulate_leaf(body, naming, conditions, leaf, slots, values),
+        Nest::Loop { body, .. } => tabulate_leaf(body, naming, conditions, leaf, cursor),
         Nest::Pre {
             pairs,
             producer,
@@ -100,13 +101,13 @@ pub fn tabulate_leaf<L: Locator>(
             let count = leaves(producer);
             if leaf < count {
                 let inner = Naming::Under(pairs.as_slice(), &*naming);
-                tabulate_leaf(producer, &inner, conditions, leaf, slots, values);
-                rename(pairs.as_slice(), values);
+                tabulate_leaf(producer, &inner, conditions, leaf, cursor);
+                rename(pairs.as_slice(), cursor.values.as_mut_slice());
             } else {
-                tabulate_leaf(consumer, naming, conditions, leaf - count, slots, values);
+                tabulate_leaf(consumer, naming, conditions, leaf - count, cursor);
             }
         }
-        Nest::Leaf { .. } => tabulate(conditions.parts, conditions.loc, naming, slots, values),
+        Nest::Leaf { .. } => tabulate_cursor(conditions, naming, cursor),
     }
 }
 

@@ -1,6 +1,6 @@
 //! The visits of a schedule's nest, one after another.
 
-ghost use Rattle.std.specs.Prelude.{◌≡◌, ◌<◌, IfOk, Some, None, length, option_map, replicate, slice_index, unwrap_or};
+ghost use Rattle.std.specs.Prelude.{◌≡◌, ◌<◌, IfOk, Some, None, length, option_map, slice_index, unwrap_or};
 ghost use Rattle.std.specs.Bool.{OnTrue};
 ghost use Rattle.dt_nest.specs.Tree.{tree_of};
 ghost use Rattle.dt_nest.specs.FitsStored.{FitsStored};
@@ -10,6 +10,7 @@ ghost use Rattle.dt_nest.specs.Run.{AreAscending, AreValued, Goes, HasValue, Hav
 
 use crate::branches::Substituted;
 use crate::conditions::Conditions;
+use crate::cursor::{Cursor, no_values};
 use crate::inner_loops::InnerLoops;
 use crate::loops::Nest;
 use crate::naming::Naming;
@@ -44,33 +45,16 @@ fn extent_of(substituted: Option<Substituted>) -> Option<u32>
     }
 }
 
-/// So many slots, each 0.
-fn zeros(alloc: Global, count: usize) -> Result<Vec<u32>, NoMemory>
-    ensures { IfOk result (λ slots. slots.items ≡ replicate count 0) }
-{
-    let slots = vec![in alloc; 0u32; count]?;
-    Ok(slots)
-}
-
-/// So many values, each none.
-fn no_values(alloc: Global, count: usize) -> Result<Vec<Option<u32>>, NoMemory>
-    ensures { IfOk result (λ values. length values.items ≡ count) }
-{
-    let values = vec![in alloc; None; count]?;
-    Ok(values)
-}
-
 /// A run over the visits of a schedule's nest that extend a path.
 #[derive(Drop)]
 pub struct Visits<'s, L: Locator> {
     sched: &'s Sched,
     loc: &'s L,
     path: Vec<u32>,
-    slots: Vec<u32>,
+    cursor: Cursor,
     progress: Progress,
     leaf: VisitedLeaf<'s>,
     inner_loops: InnerLoops,
-    values: Vec<Option<u32>>,
 }
 
 impl<'s, L: Locator> Model for Visits<'s, L> {
@@ -83,9 +67,9 @@ impl<'s, L: Locator> Model for Visits<'s, L> {
 
     ghost coded = { let node : Coded Node = Prim.hlevel codes in Prim.hlevel (codes, tree_code node) };
 
-    ghost view = { λ a. run_of (L.tensors a.loc.now) a.sched.now a.path.items a.slots.items a.progress };
+    ghost view = { λ a. run_of (L.tensors a.loc.now) a.sched.now a.path.items a.cursor.slots.items a.progress };
 
-    ghost invariant = { λ a. IsSound (L.tensors a.loc.now) a.sched.now a.path.items a.slots.items a.progress × IsKept (L.tensors a.loc.now) a.sched.now a.path.items a.slots.items a.progress a.inner_loops a.values.items × IsVisited a.sched.now.nest (standing a.progress) a.leaf };
+    ghost invariant = { λ a. IsSound (L.tensors a.loc.now) a.sched.now a.path.items a.cursor.slots.items a.progress × IsKept (L.tensors a.loc.now) a.sched.now a.path.items a.cursor.slots.items a.progress a.inner_loops a.cursor.values.items × IsVisited a.sched.now.nest (standing a.progress) a.leaf };
 }
 
 impl<'s, L: Locator> Visits<'s, L> {
@@ -104,18 +88,16 @@ impl<'s, L: Locator> Visits<'s, L> {
         let names = parts.names.as_slice().len();
         let leaf = VisitedLeaf::of(&parts.nest, 0);
         let inner_loops = InnerLoops::of(alloc, parts, path)?;
-        let slots = zeros(alloc, names)?;
-        let values = no_values(alloc, names)?;
+        let cursor = Cursor::of(alloc, names)?;
         let path = Vec::from_slice(alloc, path)?;
         Ok(Visits {
             sched,
             loc,
             path,
-            slots,
+            cursor,
             progress: Progress::Before,
             leaf,
             inner_loops,
-            values,
         })
     }
 
@@ -134,8 +116,7 @@ impl<'s, L: Locator> Visits<'s, L> {
             self.path.as_slice(),
             &self.inner_loops,
             self.progress,
-            self.slots.as_mut_slice(),
-            self.values.as_mut_slice(),
+            &mut self.cursor,
         );
         self.leaf = self.leaf.next(
             &conditions.parts.nest,
@@ -157,7 +138,7 @@ impl<'s, L: Locator> Visits<'s, L> {
     pub fn lane_room(&self, alloc: Global) -> Result<Vec<Option<u32>>, NoMemory>
         ensures { IfOk result (λ values. length values.items ≡ length self.now.sched.names) }
     {
-        no_values(alloc, self.values.len())
+        no_values(alloc, self.cursor.values.len())
     }
 
     /// The last visit, with the values of all variables.
@@ -168,7 +149,7 @@ impl<'s, L: Locator> Visits<'s, L> {
     {
         Point {
             lane: None,
-            values: self.values.as_slice(),
+            values: self.cursor.values.as_slice(),
         }
     }
 
@@ -190,7 +171,7 @@ impl<'s, L: Locator> Visits<'s, L> {
             leaf: self.progress.leaf(),
             value: x,
         };
-        let slots = self.slots.as_slice();
+        let slots = self.cursor.slots.as_slice();
         tabulate_leaf_lane(
             &conditions.parts.nest,
             &Naming::Root,
@@ -237,6 +218,6 @@ impl<'s, L: Locator> Visits<'s, L> {
         ensures value { IsValue self.now var result }
         ensures below { result < slice_index self.now.sched.extents var }
     {
-        number_of(tabled(self.values.as_slice(), var))
+        number_of(tabled(self.cursor.values.as_slice(), var))
     }
 }

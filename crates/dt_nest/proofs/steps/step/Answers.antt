@@ -7,7 +7,8 @@ use Rattle.dt_nest.specs.Schedule.{seen}
 use Rattle.dt_nest.specs.World.{world_of}
 use Rattle.dt_nest.specs.Lawful.{AreNamed, IsBounded, is_replaced, sources}
 use Rattle.dt_nest.specs.Values.{guard_inside, inside_in, is_below}
-use Rattle.dt_nest.specs.ValueTables.{dependents, tabled}
+use Rattle.dt_nest.specs.ValueTables.{dependents, refilled, tabled}
+use Rattle.dt_nest.proofs.Lent.{lent}
 use Rattle.dt_nest.specs.InnerLoops.{is_inner_loop, turned}
 use Rattle.dt_nest.proofs.Each.{all_map}
 use Rattle.dt_nest.proofs.TableFacts.{table_holds}
@@ -33,24 +34,27 @@ returns-then-hold-clause-table g c u =
     c.as_slice-in-Some.ensures ∙ c.index-lists-inner_loop.is ∙ get_or_any c.as_slice-lists.result.now c.in-Some.inner_loop c.index-lists-inner_loop.result [] room
     ∙ ap (λ (l : List (List Derived)). slice_index_or l c.in-Some.inner_loop []) c.as_slice-lists.ensures.value ∙ c.requires.turn.derived c.in-Some.inner_loop within
     ∙ ap (λ (l : List InnerLoop). dependents c.args.conditions.now.parts.now.derived (is_inner_loop (take (c.in-Some.inner_loop + 1) l))) (sym c.as_slice.ensures.value) in
-    let size : length c.turn.new.values ≡ length c.args.conditions.now.parts.now.names = c.turn.ensures.values ∙ c.requires.room in
-    ap (λ (l : List (Option ℕ)). tabled l u) c.refill.ensures.values
-    ∙ turned_table (world_of (g.L.Locator.tensors c.args.conditions.now.loc.now) (seen c.args.conditions.now.parts.now)) c.args.conditions.now.parts.now.derived c.args.slots.now c.turn.new.slots c.args.values.now c.turn.new.values c.as_slice.result.now c.in-Some.inner_loop c.as_slice-in-Some.result.now
+    let size : length c.turn.new.cursor.values.items ≡ length c.args.conditions.now.parts.now.names = c.turn.ensures.values ∙ c.requires.size.0 in
+    ap (λ (l : List (Option ℕ)). tabled l u) (lent c.turn.new.cursor.values.items c.as_mut_slice.result.now c.refill.new.values c.turn.new.cursor.values.len c.as_mut_slice.ensures.value (sym c.as_mut_slice.ensures.len ∙ ap length c.as_mut_slice.ensures.value) c.refill.ensures.length)
+    ∙ ap (λ (l : List (Option ℕ)). tabled l u) c.refill.ensures.values
+    ∙ ap (λ (l : List (Option ℕ)). tabled (refilled (world_of (g.L.Locator.tensors c.args.conditions.now.loc.now) (seen c.args.conditions.now.parts.now)) c.as_slice-in-Some.result.now l) u) c.as_mut_slice.ensures.value
+    ∙ turned_table (world_of (g.L.Locator.tensors c.args.conditions.now.loc.now) (seen c.args.conditions.now.parts.now)) c.args.conditions.now.parts.now.derived c.args.cursor.now.slots.items c.turn.new.cursor.slots.items c.args.cursor.now.values.items c.turn.new.cursor.values.items c.as_slice.result.now c.in-Some.inner_loop c.as_slice-in-Some.result.now
     c.requires.lawful.ordered
     (all_map (λ (d : Derived). (d.var < length c.args.conditions.now.parts.now.names) × AllByRecursion (λ u. u < length c.args.conditions.now.parts.now.names) (sources d.how) × IsBounded (seen c.args.conditions.now.parts.now) d.var d.how)
-    (λ (d : Derived). d.var < length c.turn.new.values) (λ d h. subst (λ (n : ℕ). d.var < n) (sym size) h.0) c.args.conditions.now.parts.now.derived c.requires.lawful.derived)
+    (λ (d : Derived). d.var < length c.turn.new.cursor.values.items) (λ d h. subst (λ (n : ℕ). d.var < n) (sym size) h.0) c.args.conditions.now.parts.now.derived c.requires.lawful.derived)
     (subst (λ (l : List InnerLoop). AllByRecursion (λ w. is_replaced c.args.conditions.now.parts.now.derived w.var ≡ false) l) (sym c.as_slice.ensures.value) c.requires.turn.loops)
     c.requires.table c.in-Some.ensures.stay c.turn.ensures.others c.turn.ensures.follow e u
 
 pub returns-then-hold-clause-steps : goal.returns-then-hold-clause-steps
 returns-then-hold-clause-steps g c =
-    let h : c.hold.result ≡ list_all (guard_inside (world_of (g.L.Locator.tensors c.args.conditions.now.loc.now) (seen c.args.conditions.now.parts.now)) (inside_in (world_of (g.L.Locator.tensors c.args.conditions.now.loc.now) (seen c.args.conditions.now.parts.now)) c.args.conditions.now.parts.now.derived [] c.turn.new.slots)) c.args.inner_loops.now.guards.items =
+    let h : c.hold.result ≡ list_all (guard_inside (world_of (g.L.Locator.tensors c.args.conditions.now.loc.now) (seen c.args.conditions.now.parts.now)) (inside_in (world_of (g.L.Locator.tensors c.args.conditions.now.loc.now) (seen c.args.conditions.now.parts.now)) c.args.conditions.now.parts.now.derived [] c.turn.new.cursor.slots.items)) c.args.inner_loops.now.guards.items =
     c.hold.ensures
+    ∙ ap (λ (l : List (Option ℕ)). list_all (λ v. is_below (slice_index c.as_slice-in-Some-3.result.now v) (tabled l v)) c.as_slice-in-Some-2.result.now) (c.as_slice-values.ensures.value ∙ (lent c.turn.new.cursor.values.items c.as_mut_slice.result.now c.refill.new.values c.turn.new.cursor.values.len c.as_mut_slice.ensures.value (sym c.as_mut_slice.ensures.len ∙ ap length c.as_mut_slice.ensures.value) c.refill.ensures.length))
     ∙ ap (λ (extents : List ℕ). list_all (λ v. is_below (slice_index extents v) (tabled c.refill.new.values v)) c.as_slice-in-Some-2.result.now) c.as_slice-in-Some-3.ensures
     ∙ ap (λ (l : List ℕ). list_all (λ v. is_below (slice_index c.args.conditions.now.parts.now.extents v) (tabled c.refill.new.values v)) l) c.as_slice-in-Some-2.ensures.value
-    ∙ table_holds (world_of (g.L.Locator.tensors c.args.conditions.now.loc.now) (seen c.args.conditions.now.parts.now)) c.args.conditions.now.parts.now.derived c.turn.new.slots c.refill.new.values c.args.inner_loops.now.guards.items (returns-then-hold-clause-table g c) in (
-      ap (λ (ws : List InnerLoop). turned ws c.args.slots.now) (sym c.as_slice.ensures.value) ∙ c.turn.ensures.turned ∙ ap (λ (o : Option ℕ). if is_some o then Some c.turn.new.slots else None) c.in-Some.is,
-      ap (λ (l : List ℕ). list_all (guard_inside (world_of (g.L.Locator.tensors c.args.conditions.now.loc.now) (seen c.args.conditions.now.parts.now)) (inside_in (world_of (g.L.Locator.tensors c.args.conditions.now.loc.now) (seen c.args.conditions.now.parts.now)) c.args.conditions.now.parts.now.derived [] c.turn.new.slots)) l) (sym c.requires.turn.guards) ∙ sym h ∙ c.if-hold.true,
+    ∙ table_holds (world_of (g.L.Locator.tensors c.args.conditions.now.loc.now) (seen c.args.conditions.now.parts.now)) c.args.conditions.now.parts.now.derived c.turn.new.cursor.slots.items c.refill.new.values c.args.inner_loops.now.guards.items (λ u. ap (λ (l : List (Option ℕ)). tabled l u) (sym (lent c.turn.new.cursor.values.items c.as_mut_slice.result.now c.refill.new.values c.turn.new.cursor.values.len c.as_mut_slice.ensures.value (sym c.as_mut_slice.ensures.len ∙ ap length c.as_mut_slice.ensures.value) c.refill.ensures.length)) ∙ returns-then-hold-clause-table g c u) in (
+      ap (λ (ws : List InnerLoop). turned ws c.args.cursor.now.slots.items) (sym c.as_slice.ensures.value) ∙ c.turn.ensures.turned ∙ ap (λ (o : Option ℕ). if is_some o then Some c.turn.new.cursor.slots.items else None) c.in-Some.is,
+      ap (λ (l : List ℕ). list_all (guard_inside (world_of (g.L.Locator.tensors c.args.conditions.now.loc.now) (seen c.args.conditions.now.parts.now)) (inside_in (world_of (g.L.Locator.tensors c.args.conditions.now.loc.now) (seen c.args.conditions.now.parts.now)) c.args.conditions.now.parts.now.derived [] c.turn.new.cursor.slots.items)) l) (sym c.requires.turn.guards) ∙ sym h ∙ c.if-hold.true,
     )
 
 pub returns-else-hold-clause-table : goal.returns-else-hold-clause-table
@@ -61,22 +65,25 @@ returns-else-hold-clause-table g c u =
     c.as_slice-in-Some.ensures ∙ c.index-lists-inner_loop.is ∙ get_or_any c.as_slice-lists.result.now c.in-Some.inner_loop c.index-lists-inner_loop.result [] room
     ∙ ap (λ (l : List (List Derived)). slice_index_or l c.in-Some.inner_loop []) c.as_slice-lists.ensures.value ∙ c.requires.turn.derived c.in-Some.inner_loop within
     ∙ ap (λ (l : List InnerLoop). dependents c.args.conditions.now.parts.now.derived (is_inner_loop (take (c.in-Some.inner_loop + 1) l))) (sym c.as_slice.ensures.value) in
-    let size : length c.turn.new.values ≡ length c.args.conditions.now.parts.now.names = c.turn.ensures.values ∙ c.requires.room in
-    ap (λ (l : List (Option ℕ)). tabled l u) c.refill.ensures.values
-    ∙ turned_table (world_of (g.L.Locator.tensors c.args.conditions.now.loc.now) (seen c.args.conditions.now.parts.now)) c.args.conditions.now.parts.now.derived c.args.slots.now c.turn.new.slots c.args.values.now c.turn.new.values c.as_slice.result.now c.in-Some.inner_loop c.as_slice-in-Some.result.now
+    let size : length c.turn.new.cursor.values.items ≡ length c.args.conditions.now.parts.now.names = c.turn.ensures.values ∙ c.requires.size.0 in
+    ap (λ (l : List (Option ℕ)). tabled l u) (lent c.turn.new.cursor.values.items c.as_mut_slice.result.now c.refill.new.values c.turn.new.cursor.values.len c.as_mut_slice.ensures.value (sym c.as_mut_slice.ensures.len ∙ ap length c.as_mut_slice.ensures.value) c.refill.ensures.length)
+    ∙ ap (λ (l : List (Option ℕ)). tabled l u) c.refill.ensures.values
+    ∙ ap (λ (l : List (Option ℕ)). tabled (refilled (world_of (g.L.Locator.tensors c.args.conditions.now.loc.now) (seen c.args.conditions.now.parts.now)) c.as_slice-in-Some.result.now l) u) c.as_mut_slice.ensures.value
+    ∙ turned_table (world_of (g.L.Locator.tensors c.args.conditions.now.loc.now) (seen c.args.conditions.now.parts.now)) c.args.conditions.now.parts.now.derived c.args.cursor.now.slots.items c.turn.new.cursor.slots.items c.args.cursor.now.values.items c.turn.new.cursor.values.items c.as_slice.result.now c.in-Some.inner_loop c.as_slice-in-Some.result.now
     c.requires.lawful.ordered
     (all_map (λ (d : Derived). (d.var < length c.args.conditions.now.parts.now.names) × AllByRecursion (λ u. u < length c.args.conditions.now.parts.now.names) (sources d.how) × IsBounded (seen c.args.conditions.now.parts.now) d.var d.how)
-    (λ (d : Derived). d.var < length c.turn.new.values) (λ d h. subst (λ (n : ℕ). d.var < n) (sym size) h.0) c.args.conditions.now.parts.now.derived c.requires.lawful.derived)
+    (λ (d : Derived). d.var < length c.turn.new.cursor.values.items) (λ d h. subst (λ (n : ℕ). d.var < n) (sym size) h.0) c.args.conditions.now.parts.now.derived c.requires.lawful.derived)
     (subst (λ (l : List InnerLoop). AllByRecursion (λ w. is_replaced c.args.conditions.now.parts.now.derived w.var ≡ false) l) (sym c.as_slice.ensures.value) c.requires.turn.loops)
     c.requires.table c.in-Some.ensures.stay c.turn.ensures.others c.turn.ensures.follow e u
 
 pub returns-else-hold-clause-steps : goal.returns-else-hold-clause-steps
 returns-else-hold-clause-steps g c =
-    let h : c.hold.result ≡ list_all (guard_inside (world_of (g.L.Locator.tensors c.args.conditions.now.loc.now) (seen c.args.conditions.now.parts.now)) (inside_in (world_of (g.L.Locator.tensors c.args.conditions.now.loc.now) (seen c.args.conditions.now.parts.now)) c.args.conditions.now.parts.now.derived [] c.turn.new.slots)) c.args.inner_loops.now.guards.items =
+    let h : c.hold.result ≡ list_all (guard_inside (world_of (g.L.Locator.tensors c.args.conditions.now.loc.now) (seen c.args.conditions.now.parts.now)) (inside_in (world_of (g.L.Locator.tensors c.args.conditions.now.loc.now) (seen c.args.conditions.now.parts.now)) c.args.conditions.now.parts.now.derived [] c.turn.new.cursor.slots.items)) c.args.inner_loops.now.guards.items =
     c.hold.ensures
+    ∙ ap (λ (l : List (Option ℕ)). list_all (λ v. is_below (slice_index c.as_slice-in-Some-3.result.now v) (tabled l v)) c.as_slice-in-Some-2.result.now) (c.as_slice-values.ensures.value ∙ (lent c.turn.new.cursor.values.items c.as_mut_slice.result.now c.refill.new.values c.turn.new.cursor.values.len c.as_mut_slice.ensures.value (sym c.as_mut_slice.ensures.len ∙ ap length c.as_mut_slice.ensures.value) c.refill.ensures.length))
     ∙ ap (λ (extents : List ℕ). list_all (λ v. is_below (slice_index extents v) (tabled c.refill.new.values v)) c.as_slice-in-Some-2.result.now) c.as_slice-in-Some-3.ensures
     ∙ ap (λ (l : List ℕ). list_all (λ v. is_below (slice_index c.args.conditions.now.parts.now.extents v) (tabled c.refill.new.values v)) l) c.as_slice-in-Some-2.ensures.value
-    ∙ table_holds (world_of (g.L.Locator.tensors c.args.conditions.now.loc.now) (seen c.args.conditions.now.parts.now)) c.args.conditions.now.parts.now.derived c.turn.new.slots c.refill.new.values c.args.inner_loops.now.guards.items (returns-else-hold-clause-table g c) in (
-      ap (λ (ws : List InnerLoop). turned ws c.args.slots.now) (sym c.as_slice.ensures.value) ∙ c.turn.ensures.turned ∙ ap (λ (o : Option ℕ). if is_some o then Some c.turn.new.slots else None) c.in-Some.is,
-      ap (λ (l : List ℕ). list_all (guard_inside (world_of (g.L.Locator.tensors c.args.conditions.now.loc.now) (seen c.args.conditions.now.parts.now)) (inside_in (world_of (g.L.Locator.tensors c.args.conditions.now.loc.now) (seen c.args.conditions.now.parts.now)) c.args.conditions.now.parts.now.derived [] c.turn.new.slots)) l) (sym c.requires.turn.guards) ∙ sym h ∙ c.if-hold.false,
+    ∙ table_holds (world_of (g.L.Locator.tensors c.args.conditions.now.loc.now) (seen c.args.conditions.now.parts.now)) c.args.conditions.now.parts.now.derived c.turn.new.cursor.slots.items c.refill.new.values c.args.inner_loops.now.guards.items (λ u. ap (λ (l : List (Option ℕ)). tabled l u) (sym (lent c.turn.new.cursor.values.items c.as_mut_slice.result.now c.refill.new.values c.turn.new.cursor.values.len c.as_mut_slice.ensures.value (sym c.as_mut_slice.ensures.len ∙ ap length c.as_mut_slice.ensures.value) c.refill.ensures.length)) ∙ returns-else-hold-clause-table g c u) in (
+      ap (λ (ws : List InnerLoop). turned ws c.args.cursor.now.slots.items) (sym c.as_slice.ensures.value) ∙ c.turn.ensures.turned ∙ ap (λ (o : Option ℕ). if is_some o then Some c.turn.new.cursor.slots.items else None) c.in-Some.is,
+      ap (λ (l : List ℕ). list_all (guard_inside (world_of (g.L.Locator.tensors c.args.conditions.now.loc.now) (seen c.args.conditions.now.parts.now)) (inside_in (world_of (g.L.Locator.tensors c.args.conditions.now.loc.now) (seen c.args.conditions.now.parts.now)) c.args.conditions.now.parts.now.derived [] c.turn.new.cursor.slots.items)) l) (sym c.requires.turn.guards) ∙ sym h ∙ c.if-hold.false,
     )

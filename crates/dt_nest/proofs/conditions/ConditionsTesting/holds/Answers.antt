@@ -1,4 +1,4 @@
-use Rattle.std.proofs.Common.{ℕ, List, sym, ap, ◌∙◌, slice_index}
+use Rattle.std.proofs.Common.{ℕ, List, Option, sym, ap, ◌∙◌, slice_index}
 use Rattle.std.specs.List.{list_all}
 use Rattle.dt_nest.specs.declared.loops.Nest.{Nest}
 use Rattle.dt_nest.specs.Schedule.{seen}
@@ -15,7 +15,8 @@ use Rattle.dt_nest.proofs.conditions.ConditionsTesting.holds.Goals as goal
 pub returns-else-is_empty-clause-holds : goal.returns-else-is_empty-clause-holds
 returns-else-is_empty-clause-holds g c =
     c.hold.ensures
-    ∙ ap (λ (extents : List ℕ). list_all (λ v. is_below (slice_index extents v) (tabled c.tabulate.new.values (renamed (pairs_in c.args.naming.now) v))) c.as_slice-in-Leaf.result.now) c.as_slice-in-Leaf-2.ensures
-    ∙ ap (λ (guards : List ℕ). list_all (λ v. is_below (slice_index c.args.self.now.parts.now.extents v) (tabled c.tabulate.new.values (renamed (pairs_in c.args.naming.now) v))) guards) c.as_slice-in-Leaf.ensures
-    ∙ table_holds_at (world_of (g.L.Locator.tensors c.args.self.now.loc.now) (seen c.args.self.now.parts.now)) c.args.self.now.parts.now.derived (pairs_in c.args.naming.now) c.args.slots.now c.tabulate.new.values c.in-Leaf.guards c.tabulate.ensures.table
-    ∙ ap (λ (leaf : Nest). (inside_tests (world_of (g.L.Locator.tensors c.args.self.now.loc.now) (seen c.args.self.now.parts.now)) c.args.self.now.parts.now.derived).holds (node_of (tree_of leaf)) (pairs_in c.args.naming.now) c.args.slots.now) (sym c.in-Leaf.is)
+    ∙ ap (λ (l : List (Option ℕ)). list_all (λ v. is_below (slice_index c.as_slice-in-Leaf-3.result.now v) (tabled l (renamed (pairs_in c.args.naming.now) v))) c.as_slice-in-Leaf-2.result.now) c.as_slice-in-Leaf.ensures.value
+    ∙ ap (λ (extents : List ℕ). list_all (λ v. is_below (slice_index extents v) (tabled c.tabulate_cursor.new.cursor.values.items (renamed (pairs_in c.args.naming.now) v))) c.as_slice-in-Leaf-2.result.now) c.as_slice-in-Leaf-3.ensures
+    ∙ ap (λ (guards : List ℕ). list_all (λ v. is_below (slice_index c.args.self.now.parts.now.extents v) (tabled c.tabulate_cursor.new.cursor.values.items (renamed (pairs_in c.args.naming.now) v))) guards) c.as_slice-in-Leaf-2.ensures
+    ∙ table_holds_at (world_of (g.L.Locator.tensors c.args.self.now.loc.now) (seen c.args.self.now.parts.now)) c.args.self.now.parts.now.derived (pairs_in c.args.naming.now) c.args.cursor.now.slots.items c.tabulate_cursor.new.cursor.values.items c.in-Leaf.guards c.tabulate_cursor.ensures.table
+    ∙ ap (λ (leaf : Nest). (inside_tests (world_of (g.L.Locator.tensors c.args.self.now.loc.now) (seen c.args.self.now.parts.now)) c.args.self.now.parts.now.derived).holds (node_of (tree_of leaf)) (pairs_in c.args.naming.now) c.args.cursor.now.slots.items) (sym c.in-Leaf.is)

@@ -11,8 +11,8 @@ returns-clause-extent g c =
     c.extent_of.ensures ∙ ap (option_map (λ (x : Substituted). x.extent)) c.self.invariant.2.substituted in
     subst (λ (n : Option ℕ). IsExtent c.args.self.now n) (sym e)
     (subst (λ (r : Run). IsExtent r (option_map (λ (x : Substituted). x.extent) (substituted_at c.self.inside.sched.now.nest (standing c.self.inside.progress)))) c.self.view_is
-    (lanes_answer (g.L.Locator.tensors c.self.inside.loc.now) c.self.inside.sched.now c.self.inside.path.items c.self.inside.slots.items c.self.inside.progress c.self.invariant.0 (subst IsAtLeaf (sym c.self.view_is) c.requires)))
+    (lanes_answer (g.L.Locator.tensors c.self.inside.loc.now) c.self.inside.sched.now c.self.inside.path.items c.self.inside.cursor.slots.items c.self.inside.progress c.self.invariant.0 (subst IsAtLeaf (sym c.self.view_is) c.requires)))
 
 pub returns-clause-ascending : goal.returns-clause-ascending
 returns-clause-ascending g c =
-    subst (λ (r : Run). OnVisit r.last (λ visit. AreAscending visit.lanes)) c.self.view_is (lanes_ascending (g.L.Locator.tensors c.self.inside.loc.now) c.self.inside.sched.now c.self.inside.path.items c.self.inside.slots.items c.self.inside.progress c.self.invariant.0 (subst IsAtLeaf (sym c.self.view_is) c.requires))
+    subst (λ (r : Run). OnVisit r.last (λ visit. AreAscending visit.lanes)) c.self.view_is (lanes_ascending (g.L.Locator.tensors c.self.inside.loc.now) c.self.inside.sched.now c.self.inside.path.items c.self.inside.cursor.slots.items c.self.inside.progress c.self.invariant.0 (subst IsAtLeaf (sym c.self.view_is) c.requires))

@@ -9,13 +9,13 @@ pub returns-clause-leaf : goal.returns-clause-leaf
 returns-clause-leaf g c =
     subst (λ (t : Tree). IsLeafOf c.args.self.now t) (sym c.self.invariant.2.nest)
     (subst (λ (r : Run). IsLeafOf r (leaf_at c.self.inside.sched.now.nest (standing c.self.inside.progress))) c.self.view_is
-    (leaf_answer (g.L.Locator.tensors c.self.inside.loc.now) c.self.inside.sched.now c.self.inside.path.items c.self.inside.slots.items c.self.inside.progress c.self.invariant.0 (subst IsAtLeaf (sym c.self.view_is) c.requires)))
+    (leaf_answer (g.L.Locator.tensors c.self.inside.loc.now) c.self.inside.sched.now c.self.inside.path.items c.self.inside.cursor.slots.items c.self.inside.progress c.self.invariant.0 (subst IsAtLeaf (sym c.self.view_is) c.requires)))
 
 pub returns-clause-valued : goal.returns-clause-valued
-returns-clause-valued g c = subst AreValued c.self.view_is (leaf_valued (g.L.Locator.tensors c.self.inside.loc.now) c.self.inside.sched.now c.self.inside.path.items c.self.inside.slots.items c.self.inside.progress c.self.invariant.0 (subst IsAtLeaf (sym c.self.view_is) c.requires))
+returns-clause-valued g c = subst AreValued c.self.view_is (leaf_valued (g.L.Locator.tensors c.self.inside.loc.now) c.self.inside.sched.now c.self.inside.path.items c.self.inside.cursor.slots.items c.self.inside.progress c.self.invariant.0 (subst IsAtLeaf (sym c.self.view_is) c.requires))
 
 pub returns-clause-loops : goal.returns-clause-loops
-returns-clause-loops g c = subst HaveLoopValues c.self.view_is (loops_valued (g.L.Locator.tensors c.self.inside.loc.now) c.self.inside.sched.now c.self.inside.path.items c.self.inside.slots.items c.self.inside.progress c.self.invariant.0 (subst IsAtLeaf (sym c.self.view_is) c.requires))
+returns-clause-loops g c = subst HaveLoopValues c.self.view_is (loops_valued (g.L.Locator.tensors c.self.inside.loc.now) c.self.inside.sched.now c.self.inside.path.items c.self.inside.cursor.slots.items c.self.inside.progress c.self.invariant.0 (subst IsAtLeaf (sym c.self.view_is) c.requires))
 
 pub returns-clause-tests : goal.returns-clause-tests
-returns-clause-tests g c = subst HaveTestValues c.self.view_is (tests_valued (g.L.Locator.tensors c.self.inside.loc.now) c.self.inside.sched.now c.self.inside.path.items c.self.inside.slots.items c.self.inside.progress c.self.invariant.0 (subst IsAtLeaf (sym c.self.view_is) c.requires))
+returns-clause-tests g c = subst HaveTestValues c.self.view_is (tests_valued (g.L.Locator.tensors c.self.inside.loc.now) c.self.inside.sched.now c.self.inside.path.items c.self.inside.cursor.slots.items c.self.inside.progress c.self.invariant.0 (subst IsAtLeaf (sym c.self.view_is) c.requires))
