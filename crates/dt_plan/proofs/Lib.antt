@@ -28,3 +28,5 @@ pub mod OpenedRows
 pub mod SegmentSums
 pub mod SegmentRows
 pub mod OpFacts
+pub mod PlanLimits
+pub mod Planned

@@ -1,5 +1,5 @@
 -- The plan of a layout, or the first number that is too great.
-use Rattle.std.specs.Prelude.{ℕ, ◌+◌, ◌*◌, List, Bool, map, length, max, nat_lt, sum_by, if◌then◌else◌, Result, Ok, Err}
+use Rattle.std.specs.Prelude.{◌≡◌, ℕ, ◌+◌, ◌*◌, List, Bool, map, length, max, nat_lt, sum_by, if◌then◌else◌, Result, Ok, Err}
 use Rattle.dt_base.specs.Ranges.{below}
 use Rattle.dt_nest.specs.Tree.{Tree, Loop, Pre, Leaf}
 use Rattle.dt_place.specs.Machines.{nodes_of}
@@ -35,6 +35,14 @@ has_too_many_visits parts = nat_lt visit_limit (visit_count parts)
 -- the sum of all nodes' bounds
 abbrev pub bound_sum : Layout → ℕ
 bound_sum l = sum_by (bound_of l) (below (nodes_of l.machine))
+
+-- the bounds of all nodes, unless they are too many words in all
+abbrev pub bounds_within : Layout → Result (List ℕ) PlanEnd
+bounds_within l = if nat_lt 16777216 (bound_sum l) then Err ends.TooManyWords else Ok (map (bound_of l) (below (nodes_of l.machine)))
+
+-- the operations, unless they are too many
+abbrev pub ops_within : Layout → Result (List Op) PlanEnd
+ops_within l = if nat_lt 8192 (length (ops_of l)) then Err ends.TooManyOps else Ok (ops_of l)
 
 -- all units
 abbrev pub unit_count : Layout → ℕ
@@ -72,3 +80,18 @@ plan_of l =
     else if nat_lt 8192 (length (ops_of l)) then Err ends.TooManyOps
     else if nat_lt 33554432 (unit_count l) then Err ends.TooManyUnits
     else Ok (plan_view l)
+
+-- Answers ---------------------------------------------------------------------------------------------------------------
+
+-- what ended a plan is the limit that the definition gives, or want of memory
+abbrev pub Fails : {Y : Type 0} → PlanEnd → Result Y PlanEnd → Type 0
+Fails ends.TooManyVisits wanted = wanted ≡ Err ends.TooManyVisits
+Fails ends.TooManyWords wanted = wanted ≡ Err ends.TooManyWords
+Fails ends.TooManyOps wanted = wanted ≡ Err ends.TooManyOps
+Fails ends.TooManyUnits wanted = wanted ≡ Err ends.TooManyUnits
+Fails ends.NoMemory wanted = Unit {0}
+
+-- what a call returned, seen by view, is what the definition gives, unless memory ran out
+abbrev pub Gives : {X Y : Type 0} → (X → Y) → Result X PlanEnd → Result Y PlanEnd → Type 0
+Gives view (Ok x) wanted = wanted ≡ Ok (view x)
+Gives view (Err end) wanted = Fails end wanted

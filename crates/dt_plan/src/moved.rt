@@ -115,7 +115,7 @@ pub(crate) fn greatest_depth(sched: &Sched, tensors: &[u32]) -> u32
 }
 
 /// The product of some extents.
-fn product_of(extents: &[u32]) -> u32
+pub(crate) fn product_of(extents: &[u32]) -> u32
     requires { product extents.now ≤ 1048576 }
     ensures { result ≡ product extents.now }
 {
