@@ -5,15 +5,19 @@
 
 mod case;
 mod case_end;
+mod files;
 mod homes;
 mod jobs;
+mod levels;
 mod memories;
 mod needs;
 mod walk;
 
 use case::{Case, answer};
 use case_end::CaseEnd;
+use files::{FileCall, files};
 use homes::homes;
+use levels::{levels, levels_case};
 use memories::{MemoryCall, memory};
 use needs::needs;
 use std::alloc::Global;
@@ -68,6 +72,9 @@ fn run(alloc: Global, word: &str, size: u32) -> Result<u32, CaseEnd> {
         }
         return memory(alloc, call, spread, size);
     }
+    if let Some(end) = stored_case(alloc, word, size) {
+        return end;
+    }
     match Case::from_word(word) {
         None => Err(CaseEnd::Refused),
         Some(case) => {
@@ -77,6 +84,18 @@ fn run(alloc: Global, word: &str, size: u32) -> Result<u32, CaseEnd> {
             Ok(answer(alloc, case, size)?)
         }
     }
+}
+
+/// The answer where the word is a case of levels or of files.
+fn stored_case(alloc: Global, word: &str, size: u32) -> Option<Result<u32, CaseEnd>> {
+    if size > levels::MOST_ENTRIES {
+        return None;
+    }
+    if let Some((call, mix)) = levels_case(word) {
+        return Some(levels(alloc, call, mix, size));
+    }
+    let call = FileCall::from_word(word)?;
+    Some(files(alloc, call, size))
 }
 
 /// Whether only the matrix is to be built, where the word is a case of homes.
