@@ -1,5 +1,6 @@
 pub mod Below
-pub mod Conjunctions
+pub mod Finds
+pub mod LawProofs
 pub mod Made
 pub mod Opens
 pub mod Releases

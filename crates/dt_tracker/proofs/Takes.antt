@@ -2,12 +2,11 @@
 use Rattle.std.proofs.Common.{◌≡◌, ◌≢◌, ℕ, zero, suc, ◌+◌, ◌-◌, ◌*◌, ◌<◌, ◌≤◌, Bool, true, false, not, ◌&&◌, nat_eq, nat_lt, List, [], ◌∷◌, length, get_or, slice_set, refl, ap, sym, ◌∙◌, subst, arith, ⊎_elim, length-set, get_or-set_same, get_or-set_other}
 use Rattle.std.specs.Option.{is_some}
 use Rattle.std.specs.List.{list_any}
-use Rattle.std.proofs.lemmas.Bool.{cases_eq}
+use Rattle.std.proofs.lemmas.Bool.{and_from, and_parts, cases_eq}
 use Rattle.std.proofs.lemmas.Bool.Decides.{nat_tests}
 use Rattle.dt_tracker.specs.Tracks.{IsLawful, follows, has_left, holds, is_enabled, waits_of}
-use Rattle.dt_tracker.specs.Waiting.{AreReady, CanRelease, IsTracked, fewer, is_ready, one_if, times_from, times_in, waiting_of}
+use Rattle.dt_tracker.specs.Waiting.{AreReady, CanRelease, IsFirst, IsTracked, fewer, is_ready, one_if, times_from, times_in, waiting_of}
 use Rattle.dt_tracker.proofs.Below.{each_zero, sum_one, sum_same}
-use Rattle.dt_tracker.proofs.Conjunctions.{both}
 use Rattle.dt_tracker.proofs.Opens.{term_is, track_of, waiting_open}
 use Rattle.dt_tracker.proofs.Releases.{can_release, fewer_at, length-fewer}
 
@@ -40,7 +39,7 @@ module _ (units done : List ℕ) (rows : List (List ℕ)) (waiting : List ℕ) (
 
   module _ (en : is_enabled (track_of units done rows) b ≡ true) where
     pub has_one : has_left units done b ≡ true
-    has_one = (both (has_left units done b) (not (is_some (waits_of (track_of units done rows) b))) en).0
+    has_one = (and_parts (has_left units done b) (not (is_some (waits_of (track_of units done rows) b))) en).0
 
     one_less : get_or done b 0 < get_or units b 0
     one_less = below_of (get_or done b 0) (get_or units b 0) has_one
@@ -48,7 +47,7 @@ module _ (units done : List ℕ) (rows : List (List ℕ)) (waiting : List ℕ) (
     waits_zero : waiting_of units done rows b ≡ 0
     waits_zero =
         zero_of (waiting_of units done rows b)
-        (waiting_open units done rows b ∙ (both (has_left units done b) (not (is_some (waits_of (track_of units done rows) b))) en).1)
+        (waiting_open units done rows b ∙ (and_parts (has_left units done b) (not (is_some (waits_of (track_of units done rows) b))) en).1)
 
     -- all that lead to it are finished
     full_before : (a : ℕ) → follows rows a b ≡ true → get_or done a 0 ≡ get_or units a 0
@@ -185,3 +184,32 @@ module _ (units done : List ℕ) (rows : List (List ℕ)) (waiting : List ℕ) (
         moved after flags2 (finishes units done rows waiting flags b t h en (left_is false l) after flags2
         (e ∙ ap (λ (xs : List ℕ). fewer xs waiting) read) (len ∙ ap length f)
         (subst (λ (ds : List ℕ). AreReady units ds after flags2) d (subst (λ (us : List ℕ). AreReady us done2 after flags2) u are)))
+
+  -- the least operation with a unit left
+  pub first_before : (first : ℕ) → IsFirst units done first → (a : ℕ) → a < first → has_left units2 done2 a ≡ false
+  first_before first f a l =
+      let old = f.before a l in
+      let other : a ≢ b = λ e. absurd (differ (has_left units done b) (has_one units done rows waiting flags b t h en) (subst (λ (x : ℕ). has_left units done x ≡ false) e old)) in
+      ap (λ (us : List ℕ). has_left us done2 a) u ∙ ap (λ (ds : List ℕ). has_left units ds a) d ∙ left_there units done rows waiting flags b t h a other ∙ old
+    where
+      differ : (c : Bool) → c ≡ true → c ≡ false → ⊥
+      differ true e f = absurd (cc)
+      differ false e f = absurd (cc)
+
+  pub first_on : (first : ℕ) → has_left units2 done2 b ≡ true → IsFirst units done first → IsFirst units2 done2 first
+  first_on first l f =
+      let size : length units2 ≡ length units = ap length u in
+      record {
+        most = omega (arith, size, f.most);
+        before = first_before first f;
+        here = λ h2.
+            ⊎_elim
+            (λ (e : first ≡ b). subst (λ (x : ℕ). has_left units2 done2 x ≡ true) (sym e) l)
+            (λ (ne : first ≢ b).
+            ap (λ (us : List ℕ). has_left us done2 first) u ∙ ap (λ (ds : List ℕ). has_left units ds first) d ∙ left_there units done rows waiting flags b t h first ne
+            ∙ f.here (omega (arith, h2, size)))
+            (cases_eq first b);
+      }
+
+  pub first_most : (first : ℕ) → IsFirst units done first → first ≤ length units2
+  first_most first f = let size : length units2 ≡ length units = ap length u in omega (arith, size, f.most)

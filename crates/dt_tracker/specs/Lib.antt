@@ -1,2 +1,3 @@
+pub mod TrackerLaws
 pub mod Tracks
 pub mod Waiting

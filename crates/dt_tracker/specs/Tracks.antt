@@ -23,6 +23,10 @@ followers_in events a = map (λ (e : ℕ × ℕ). e.1) (filter (λ (e : ℕ × �
 abbrev pub has_left : List ℕ → List ℕ → ℕ → Bool
 has_left units done a = nat_lt (slice_index done a) (slice_index units a)
 
+-- the least operation with a unit left
+abbrev pub least_left : Track → Option ℕ
+least_left t = find (has_left t.units t.done) (below (length t.units))
+
 -- whether an event leads from an unfinished operation a to b
 abbrev pub holds : Track → ℕ → ℕ → Bool
 holds t b a = has_left t.units t.done a && follows t.followers a b

@@ -1,5 +1,5 @@
 -- What a tracker keeps beside the counts.
-use Rattle.std.specs.Prelude.{◌≡◌, ℕ, ◌+◌, ◌-◌, ◌*◌, ◌<◌, Bool, true, false, ◌&&◌, List, [], ◌∷◌, length, map, nat_eq, slice_index, slice_index_or, slice_set, sum_by}
+use Rattle.std.specs.Prelude.{◌≡◌, ℕ, ◌+◌, ◌-◌, ◌*◌, ◌<◌, ◌≤◌, Bool, true, false, ◌&&◌, List, [], ◌∷◌, length, map, nat_eq, slice_index, slice_index_or, slice_set, sum_by}
 use Rattle.dt_base.specs.Ranges.{below}
 use Rattle.dt_tracker.specs.Tracks.{IsLawful, followers_in, has_left}
 
@@ -53,3 +53,14 @@ pub record IsTracked (units done : List ℕ) (rows : List (List ℕ)) (waiting :
   pub flagged : length flags ≡ length units
   pub waits : (b : ℕ) → b < length units → slice_index waiting b ≡ waiting_of units done rows b
   pub ready : AreReady units done waiting flags
+
+-- No operation before this one has a unit left, and this one has, where it exists.
+pub record IsFirst (units done : List ℕ) (first : ℕ) : Type 0 where
+  pub most : first ≤ length units
+  pub before : (a : ℕ) → a < first → has_left units done a ≡ false
+  pub here : first < length units → has_left units done first ≡ true
+
+-- What a tracker keeps.
+pub record IsKept (units done : List ℕ) (rows : List (List ℕ)) (waiting : List ℕ) (flags : List Bool) (first : ℕ) : Type 0 where
+  pub tracked : IsTracked units done rows waiting flags
+  pub least : IsFirst units done first

@@ -1,8 +1,8 @@
 //! What changes where an operation finishes.
 
-ghost use Rattle.std.specs.Prelude.{◌≡◌, ◌+◌, ◌<◌, ◌&&◌, true, length, nat_eq, slice_index, slice_set};
+ghost use Rattle.std.specs.Prelude.{◌≡◌, ℕ, ◌+◌, ◌<◌, ◌≤◌, ◌&&◌, false, true, length, nat_eq, slice_index, slice_set};
 ghost use Rattle.dt_tracker.specs.Tracks.{has_left};
-ghost use Rattle.dt_tracker.specs.Waiting.{AreReady, CanRelease, fewer};
+ghost use Rattle.dt_tracker.specs.Waiting.{AreReady, CanRelease, IsFirst, fewer};
 
 use dt_flags::Flags;
 
@@ -36,6 +36,23 @@ pub(crate) fn count_unit(counts: &mut Counts, op: u32)
     if done < counts.units[op as usize] {
         counts.done[op as usize] = done + 1;
     }
+}
+
+/// The first operation with a unit left, from one on before which none has one; the count of all where none has one.
+pub(crate) fn first_with_left(counts: &Counts, from: u32) -> u32
+    requires done { length counts.now.done.items ≡ length counts.now.units.items }
+    requires few { length counts.now.units.items < 4294967296 }
+    requires from { from ≤ length counts.now.units.items }
+    requires before { (a : ℕ) → a < from → has_left counts.now.units.items counts.now.done.items a ≡ false }
+    ensures { IsFirst counts.now.units.items counts.now.done.items result }
+{
+    let count = counts.units.len() as u32;
+    for op in from..count {
+        if counts.has_left(op) {
+            return op;
+        }
+    }
+    count
 }
 
 /// Sets or clears a flag.

@@ -2,10 +2,10 @@
 
 ghost use Rattle.std.specs.Prelude.{◌≡◌, ◌-◌, ◌<◌, ◌^◌, ℕ, true, IfOk, length, slice_index, if◌then◌else◌};
 ghost use Rattle.std.specs.List.{All};
-ghost use Rattle.dt_tracker.specs.Tracks.{IsLawful, answer_of, enabled_of, is_enabled, is_stepped, opening_of, taken, waits_of};
+ghost use Rattle.dt_tracker.specs.Tracks.{IsLawful, answer_of, enabled_of, is_enabled, is_stepped, least_left, opening_of, taken, waits_of};
 
 use crate::holding::first_holding;
-use crate::release::{Counts, count_unit, release};
+use crate::release::{Counts, count_unit, first_with_left, release};
 use crate::rows::{enabled_flags, rows_of, waiting_for};
 use crate::step::Step;
 use dt_base::{NoMemory, Numbers};
@@ -20,17 +20,18 @@ pub struct Tracker {
     rows: Vec<Numbers>,
     waiting: Vec<u32>,
     enabled: Flags,
+    first: u32,
 }
 
 impl Model for Tracker {
     ghost use Rattle.dt_tracker.specs.Tracks.{Track};
-    ghost use Rattle.dt_tracker.specs.Waiting.{IsTracked};
+    ghost use Rattle.dt_tracker.specs.Waiting.{IsKept};
 
     ghost Value = { Track };
 
     ghost view = { λ t. record { units = t.counts.units.items; followers = t.rows.items; done = t.counts.done.items } };
 
-    ghost invariant = { λ t. IsTracked t.counts.units.items t.counts.done.items t.rows.items t.waiting.items t.enabled };
+    ghost invariant = { λ t. IsKept t.counts.units.items t.counts.done.items t.rows.items t.waiting.items t.enabled t.first };
 }
 
 impl Tracker {
@@ -48,6 +49,17 @@ impl Tracker {
         ensures { result ≡ slice_index self.now.units op - slice_index self.now.done op }
     {
         self.counts.units[op as usize] - self.counts.done[op as usize]
+    }
+
+    /// The least operation with a unit left. Where events are lawful it may go on.
+    pub fn first_left(&self) -> Option<u32>
+        ensures { result ≡ least_left self.now }
+    {
+        if (self.first as usize) < self.counts.units.len() {
+            Some(self.first)
+        } else {
+            None
+        }
     }
 
     /// How many operations may go on: they have a unit left, and each operation from which an event leads to them is finished.
@@ -110,6 +122,7 @@ impl Tracker {
                 &mut self.waiting,
                 &mut self.enabled,
             );
+            self.first = first_with_left(&self.counts, self.first);
         }
     }
 
@@ -140,11 +153,13 @@ impl Tracker {
         let rows = rows_of(alloc, units.len() as u32, events)?;
         let waiting = waiting_for(alloc, &counts, events)?;
         let enabled = enabled_flags(alloc, &counts, waiting.as_slice())?;
+        let first = first_with_left(&counts, 0);
         Ok(Tracker {
             counts,
             rows,
             waiting,
             enabled,
+            first,
         })
     }
 }

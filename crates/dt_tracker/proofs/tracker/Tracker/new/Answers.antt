@@ -10,5 +10,8 @@ invariant_of-result c =
     let u : c.in_ok-from_slice.field-0.items ≡ c.args.units.now = search rules in
     let d : c.in_ok-vec.field-0.items ≡ replicate (length c.in_ok-from_slice.field-0.items) 0 = rw u (search rules) in
     let r : c.in_ok-rows.rows.items ≡ map (followers_in c.args.events.now) (below (length c.in_ok-from_slice.field-0.items)) = rw u (search rules) in
-    opens c.in_ok-from_slice.field-0.items c.args.events.now c.in_ok-vec.field-0.items c.in_ok-rows.rows.items c.in_ok-waiting.waiting.items c.in_ok-enabled.enabled
-    (rw u c.requires.small) (rw u c.requires.ascend) d r (search rules) (search rules) (search rules)
+    record {
+      tracked = opens c.in_ok-from_slice.field-0.items c.args.events.now c.in_ok-vec.field-0.items c.in_ok-rows.rows.items c.in_ok-waiting.waiting.items c.in_ok-enabled.enabled
+          (rw u c.requires.small) (rw u c.requires.ascend) d r (search rules) (search rules) (search rules);
+      least = c.first_with_left-first.ensures;
+    }

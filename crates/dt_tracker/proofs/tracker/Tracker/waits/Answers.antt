@@ -8,6 +8,6 @@ pub returns-then-index-eq0 : goal.returns-then-index-eq0
 returns-then-index-eq0 c =
     let s = c.self.inside in
     let h : c.args.op < length s.counts.units.items = subst (λ (t : Track). c.args.op < length t.units) (sym c.self.view_is) c.requires in
-    waits_none s.counts.units.items s.counts.done.items s.rows.items s.waiting.items s.enabled c.self.invariant c.args.op c.index.result.now h
-    (get_or_read s.waiting.items c.args.op c.index.result.now (omega (arith, h, c.self.invariant.counted)) c.index.ensures 0) c.if-index-eq0.true
+    waits_none s.counts.units.items s.counts.done.items s.rows.items s.waiting.items s.enabled c.self.invariant.tracked c.args.op c.index.result.now h
+    (get_or_read s.waiting.items c.args.op c.index.result.now (omega (arith, h, c.self.invariant.tracked.counted)) c.index.ensures 0) c.if-index-eq0.true
     ∙ ap (λ (t : Track). waits_of t c.args.op) c.self.view_is
