@@ -35,7 +35,7 @@ moved_loops k v (Pre work more p q) h = absurd h
 moved_loops k v (Leaf lhs terms guards kernel) h = absurd h
 
 -- the distributed loops
-distributed_has : (k : ℕ) (tree : Tree) → AreDistributed k tree → HasLoops k tree
+pub distributed_has : (k : ℕ) (tree : Tree) → AreDistributed k tree → HasLoops k tree
 distributed_has zero tree h = tt
 distributed_has (suc k) (Loop v n walk body) h = (h.0.1, distributed_has k body h.1)
 distributed_has (suc k) (Pre work more p q) h = absurd h
@@ -74,7 +74,7 @@ last_depth (suc k) v (Pre work more p q) e = absurd (cc)
 last_depth (suc k) v (Leaf lhs terms guards kernel) e = absurd (cc)
 
 -- a fact of the loop that a command named
-named_has : (P : ℕ → Type 0) (t v : ℕ) (moved : List Moved) → AllByRecursion (λ (m : Moved). P m.at) moved → named_loop moved t ≡ Some v → P v
+pub named_has : (P : ℕ → Type 0) (t v : ℕ) (moved : List Moved) → AllByRecursion (λ (m : Moved). P m.at) moved → named_loop moved t ≡ Some v → P v
 named_has P t v [] h e = absurd (cc)
 named_has P t v (m ∷ moved) h e = go (nat_eq m.tensor t) e (λ i. named_has P t v moved h.1 i)
   where

@@ -15,7 +15,7 @@ use Rattle.dt_nest.specs.Paths.{HasLoops, depth_of, tensors_in, task_depth}
 use Rattle.dt_nest.specs.CommunicateLoops.{distributed_loops, named_loop}
 use Rattle.dt_nest.specs.Outputs.{output_of}
 use Rattle.dt_nest.proofs.RootApart.{output_below}
-use Rattle.dt_nest.proofs.PathDepths.{task_loops}
+use Rattle.dt_nest.proofs.PathDepths.{distributed_has, named_has, task_loops}
 use Rattle.dt_plan.proofs.Ascending.{all_in, filter_in}
 use Rattle.dt_plan.proofs.BracketsMembers.{in_below}
 
@@ -29,13 +29,6 @@ named_least k v (Loop u n walk body) h = go (nat_eq u v) h (λ c. named_least (k
     go false c r = let l = r c in omega (arith, l)
 named_least k v (Pre work more p q) h = absurd h
 named_least k v (Leaf lhs terms guards kernel) h = absurd h
-
--- the distributed loops are the outermost ones
-pub distributed_has : (k : ℕ) (tree : Tree) → AreDistributed k tree → HasLoops k tree
-distributed_has zero tree h = tt
-distributed_has (suc k) (Loop v n walk body) h = (h.0.1, distributed_has k body h.1)
-distributed_has (suc k) (Pre work more p q) h = absurd h
-distributed_has (suc k) (Leaf lhs terms guards kernel) h = absurd h
 
 some_is : (u v : ℕ) → Some u ≡ Some v → u ≡ v
 some_is u v e = ap (λ (o : Option ℕ). unwrap_or o 0) e
@@ -82,15 +75,6 @@ some_last zero (Pre work more p q) o h e = absurd h
 some_last zero (Leaf lhs terms guards kernel) o h e = absurd h
 some_last (suc k) (Pre work more p q) o h e = absurd h
 some_last (suc k) (Leaf lhs terms guards kernel) o h e = absurd h
-
--- a fact of the loop that a command named
-named_has : (P : ℕ → Type 0) (t v : ℕ) (moved : List Moved) → AllByRecursion (λ (m : Moved). P m.at) moved → named_loop moved t ≡ Some v → P v
-named_has P t v [] h e = absurd (cc)
-named_has P t v (m ∷ moved) h e = go (nat_eq m.tensor t) e (λ i. named_has P t v moved h.1 i)
-  where
-    go : (b : Bool) → option_map (λ (m : Moved). m.at) (if b then Some m else find (λ m. nat_eq m.tensor t) moved) ≡ Some v → (named_loop moved t ≡ Some v → P v) → P v
-    go true i r = subst P (some_is m.at v i) h.0
-    go false i r = r i
 
 module _ (s : Schedule) (lawful : IsLawful s) where
   pub distributed_loops_are : HasLoops s.distributed s.nest

@@ -9,16 +9,9 @@ use Rattle.dt_model.specs.Shape.{dims, IsShape}
 use Rattle.dt_model.specs.WholeTensor.{WholeTensor}
 use Rattle.dt_model.specs.declared.shape.Shape.{Shape}
 use Rattle.dt_tensor.specs.Packed.{IsPacked, number_in, whole_of, dense_levels, dense_tensor}
+use Rattle.dt_tensor.proofs.Depths.{dense_passes}
+use Rattle.dt_base.proofs.Filters.{filter-always, list_all-always}
 use Rattle.dt_base.proofs.Assignments.{length-assignments, row_major-assignment, position-assignments}
-
--- a test that always passes
-list_all-always : {A : Type 0} (p : A → Bool) (xs : List A) → ((x : A) → p x ≡ true) → list_all p xs ≡ true
-list_all-always p [] h = refl
-list_all-always p (x ∷ xs) h = rw (h x, list_all-always p xs h) refl
-
-filter-always : {A : Type 0} (p : A → Bool) (xs : List A) → ((x : A) → p x ≡ true) → filter p xs ≡ xs
-filter-always p [] h = refl
-filter-always p (x ∷ xs) h = rw (h x, filter-always p xs h) refl
 
 -- no level is compressed
 dense_level : (m q : ℕ) → get_or (replicate m false) q false ≡ false
@@ -26,14 +19,11 @@ dense_level zero q = refl
 dense_level (suc m) zero = refl
 dense_level (suc m) (suc q) = dense_level m q
 
-or_first : (a b : Bool) → a ≡ false → (not a || b) ≡ true
-or_first a b h = rw h refl
-
 -- at dense levels each coordinate follows
 pub is_followed-dense : (m : ℕ) (entries : List (List ℕ)) (c : List ℕ) → is_followed (replicate m false) entries c ≡ true
 is_followed-dense m entries c =
     list_all-always (λ q. not (get_or (replicate m false) q false) || list_any (begins (take (q + 1) c)) entries) (below (length c))
-    (λ q. or_first (get_or (replicate m false) q false) (list_any (begins (take (q + 1) c)) entries) (dense_level m q))
+    (λ q. dense_passes (get_or (replicate m false) q false) (list_any (begins (take (q + 1) c)) entries) (dense_level m q))
 
 -- dense levels store each index
 pub stored_coords-dense : (ns : List ℕ) (m : ℕ) (entries : List (List ℕ)) → stored_coords ns (replicate m false) entries ≡ assignments ns

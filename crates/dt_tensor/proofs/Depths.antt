@@ -2,11 +2,12 @@
 use Rattle.std.proofs.Common.{◌≡◌, ℕ, zero, suc, ◌+◌, ◌<◌, ◌≤◌, ◌-◌, List, [], ◌∷◌, ◌++◌, length, get_or, take, refl, ap, sym, ◌∙◌, subst, arith, Bool, true, false, ◌||◌, not, inl, inr, ◌⊎◌}
 use Rattle.std.specs.List.{Any, list_all, list_any}
 use Rattle.std.specs.Str.{bytes_eq}
-use Rattle.std.proofs.lemmas.Bool.{and_parts, and_from, cases_lt}
+use Rattle.std.proofs.lemmas.Bool.{and_parts, and_from, cases_lt, or_right}
 use Rattle.std.proofs.lemmas.List.{length-take-le, take-take, get_or-take, get_or_past, length_push, take-append-le}
 use Rattle.std.proofs.lemmas.List.Folds.{Any-from_list_any, list_any_at, list_all-append}
 use Rattle.std.proofs.lemmas.Slice.Eq.{bytes_eq-Decides}
 use Rattle.dt_base.specs.Ranges.{below}
+use Rattle.dt_base.proofs.Filters.{same_truth}
 use Rattle.dt_model.specs.Positions.{begins, is_followed}
 use Rattle.dt_tensor.specs.Packed.{deeper, depth_of}
 
@@ -65,17 +66,9 @@ make_below p (suc n) h =
     list_all-append p (below n) (n ∷ [])
     ∙ and_from (list_all p (below n)) (list_all p (n ∷ [])) (make_below p n (λ q l. h q (omega arith))) (and_from (p n) true (h n (omega arith)) refl)
 
-both_ways : (a b : Bool) → (a ≡ true → b ≡ true) → (b ≡ true → a ≡ true) → a ≡ b
-both_ways true b f g = sym (f refl)
-both_ways false true f g = absurd (let e = g refl in cc)
-both_ways false false f g = refl
-
-dense_passes : (a b : Bool) → a ≡ false → (not a || b) ≡ true
+-- what is asked of compressed levels holds at a dense one
+pub dense_passes : (a b : Bool) → a ≡ false → (not a || b) ≡ true
 dense_passes a b h = rw h refl
-
-pub test_passes : (a b : Bool) → b ≡ true → (a || b) ≡ true
-test_passes true b h = refl
-test_passes false b h = h
 
 compressed_fails : (a b : Bool) → a ≡ true → (not a || b) ≡ true → b ≡ true
 compressed_fails a b e h = rw e at h
@@ -97,7 +90,7 @@ shorter r q c e k l h =
 -- others are followed where their front up to the last compressed level begins an entry
 pub followed_deep : (comp : List Bool) (entries : List (List ℕ)) (c : List ℕ) (d : ℕ) → length c ≤ length comp → depth_of (take (length c) comp) ≡ d → 0 < d
     → (d ≤ length c) × (is_followed comp entries c ≡ list_any (begins (take d c)) entries)
-followed_deep comp entries c d fits is pos = (within, both_ways (is_followed comp entries c) (list_any (begins (take d c)) entries) down up)
+followed_deep comp entries c d fits is pos = (within, same_truth (is_followed comp entries c) (list_any (begins (take d c)) entries) down up)
   where
     facts : IsDepth (take (length c) comp) d
     facts = subst (λ j. IsDepth (take (length c) comp) j) is (depth_is (take (length c) comp))
@@ -127,7 +120,7 @@ followed_deep comp entries c d fits is pos = (within, both_ways (is_followed com
         by_place q l (inr le) =
             dense_passes (get_or comp q false) (list_any (begins (take (q + 1) c)) entries) (sym (get_or-take (length c) comp q false l) ∙ facts.dense q le)
         by_place q l (inl less) =
-            test_passes (not (get_or comp q false)) (list_any (begins (take (q + 1) c)) entries)
+            or_right (not (get_or comp q false)) (list_any (begins (take (q + 1) c)) entries)
             (list_any_at (begins (take (q + 1) c)) entries some.0 some.1 some.2 (ap (begins (take (q + 1) c)) some.3 ∙ shorter (q + 1) d c some.1 (omega arith) within some.4))
 
 -- only one depth fits

@@ -112,13 +112,15 @@ pub values_none : (ns : List ℕ) (entries : List Given) (i : ℕ) → length en
 values_none ns entries i h = table-same (given_at (drop i entries)) ns 0 (λ c. ap (λ (es : List Given). given_at es c) (drop_all i entries h))
 
 -- one more number is given, in front of the others
-given_here : (e : Given) (es : List Given) → given_at (e ∷ es) e.at ≡ e.value
+pub given_here : (e : Given) (es : List Given) → given_at (e ∷ es) e.at ≡ e.value
 given_here e es = ap (λ (b : Bool). unwrap_or (option_map (λ e. e.value) (cond b (Some e) (find (λ f. bytes_eq f.at e.at) es))) 0) (bytes_eq-same e.at)
 
-given_elsewhere : (e : Given) (es : List Given) (d : List ℕ) → (e.at ≡ d → ⊥) → given_at (e ∷ es) d ≡ given_at es d
+-- numbers elsewhere are those of the others
+pub given_elsewhere : (e : Given) (es : List Given) (d : List ℕ) → (e.at ≡ d → ⊥) → given_at (e ∷ es) d ≡ given_at es d
 given_elsewhere e es d apart = ap (λ (b : Bool). unwrap_or (option_map (λ e. e.value) (cond b (Some e) (find (λ f. bytes_eq f.at d) es))) 0) (bytes_eq-apart e.at d apart)
 
-opened : (entries : List Given) (i : ℕ) (e : Given) → i < length entries → e ≡ get_or entries i e → drop i entries ≡ e ∷ drop (i + 1) entries
+-- the entries from one on begin with it
+pub opened : (entries : List Given) (i : ℕ) (e : Given) → i < length entries → e ≡ get_or entries i e → drop i entries ≡ e ∷ drop (i + 1) entries
 opened entries i e h item = drop_more entries i e h ∙ ap (λ (f : Given). f ∷ drop (i + 1) entries) (sym item)
 
 pub values_more : (ns : List ℕ) (entries : List Given) (i m k : ℕ) (e : Given) (values : List ℕ) → i < length entries → i + 1 ≡ m → e ≡ get_or entries i e → row_major ns e.at ≡ Some k

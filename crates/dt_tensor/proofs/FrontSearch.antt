@@ -2,7 +2,7 @@
 use Rattle.std.proofs.Common.{◌≡◌, ℕ, zero, suc, ◌+◌, ◌-◌, ◌*◌, ◌/◌, ◌%◌, ◌<◌, ◌≤◌, ◌==◌, List, [], ◌∷◌, length, get_or, refl, ap, sym, ◌∙◌, subst, arith, Option, Some, None, is_some, slice_get, Bool, true, false, cond, ◌&&◌, ◌||◌, nat_le, nat_lt, inl, inr, not}
 use Rattle.std.specs.List.{Any, find, list_any, position_or_len, prefix_len}
 use Rattle.std.specs.List.Sorted.{IsStrictlyIncreasing}
-use Rattle.std.proofs.lemmas.Bool.{cases_lt, lt-ltb, le-leb, le-ltb, lt-leb, and_from, and_left, and_right, and_parts, ltb-true, leb-true}
+use Rattle.std.proofs.lemmas.Bool.{cases_lt, lt-ltb, le-leb, le-ltb, lt-leb, and_from, and_left, and_right, and_parts, ltb-true, leb-true, or_right}
 use Rattle.std.proofs.lemmas.Bool.Decides.{eqb_tells}
 use Rattle.std.proofs.lemmas.List.{get_or_default}
 use Rattle.std.proofs.lemmas.List.Folds.{find_at, Any-from_list_any, list_any_at}
@@ -104,10 +104,6 @@ behind x xs p q f up s h less =
     let late : get_or (x ∷ xs) 0 0 ≤ get_or (x ∷ xs) some.0 0 = never_less (x ∷ xs) up 0 some.0 (omega arith) some.2 in
     let item : get_or (x ∷ xs) some.0 0 ≡ some.1 = get_or_default (x ∷ xs) some.0 0 some.1 some.2 ∙ some.3 in
     omega arith
-
-or_right : (a b : Bool) → b ≡ true → (a || b) ≡ true
-or_right true b h = refl
-or_right false b h = h
 
 not_first : (x : ℕ) (xs : List ℕ) (p q : ℕ → Bool) (f : ℕ) (b : Bool) → p x ≡ false → q x ≡ b → (b || list_any q xs) ≡ true → ((g : ℕ) → q g ≡ true → (p g ≡ true) × (g < f)) → list_any q xs ≡ true
 not_first x xs p q f false t s h less = h

@@ -2,7 +2,7 @@
 use Rattle.std.proofs.Common.{◌≡◌, ◌/◌, inl, inr, ℕ, zero, suc, ◌*◌, ◌<◌, ◌≤◌, List, [], ◌∷◌, length, get_or, take, drop, map, replicate, refl, ap, ap₂, sym, ◌∙◌, subst, arith, Option, Some, None, IsSome, Result, Ok, Err, Bool, true, false, cond, not, ◌||◌, ◌+◌, is_some, option_map, unwrap_or, slice_index, nat_lt, if◌then◌else◌}
 use Rattle.std.specs.List.{All, AllByRecursion, filter, find, list_any, position, position_or_len}
 use Rattle.std.specs.List.Sorted.{IsStrictlyIncreasing}
-use Rattle.std.proofs.lemmas.Bool.{cases_lt, lt-ltb, le-ltb}
+use Rattle.std.proofs.lemmas.Bool.{cases_lt, lt-ltb, le-ltb, or_right}
 use Rattle.std.proofs.lemmas.Nat.{div-mul-add, div-add-mod', mod_below, mul-le}
 use Rattle.dt_tensor.proofs.IndexNumbers.{product_cut}
 use Rattle.std.proofs.lemmas.List.{length-map, length-take-le, get_or-map, same_lists}
@@ -26,7 +26,7 @@ use Rattle.dt_tensor.specs.declared.packing.PackEnd.{PackEnd}
 use Rattle.dt_tensor.specs.declared.packing.PackEnd.TheVariants as ends
 use Rattle.dt_tensor.proofs.BehindFronts.{length-behind}
 use Rattle.dt_tensor.proofs.DenseTensors.{stored_coords-dense}
-use Rattle.dt_tensor.proofs.Depths.{depth_is, make_below, test_passes}
+use Rattle.dt_tensor.proofs.Depths.{depth_is, make_below}
 use Rattle.dt_tensor.proofs.FrontSearch.{find_any}
 use Rattle.dt_tensor.proofs.StoredTables.{value_there}
 use Rattle.dt_tensor.proofs.GivenFronts.{fronts_below, contains_map}
@@ -151,13 +151,13 @@ any_filter p q (x ∷ xs) (suc k) h a b = by_test (p x) (any_filter p q xs k (om
   where
     by_test : (t : Bool) → list_any q (filter p xs) ≡ true → list_any q (cond t (x ∷ filter p xs) (filter p xs)) ≡ true
     by_test false e = e
-    by_test true e = test_passes (q x) (list_any q (filter p xs)) e
+    by_test true e = or_right (q x) (list_any q (filter p xs)) e
 
 -- an entry is followed by its own coordinates
 followed_itself : (comp : List Bool) (entries : List Given) (c : List ℕ) → list_any (λ e. bytes_eq e.at c) entries ≡ true → is_followed comp (map (λ e. e.at) entries) c ≡ true
 followed_itself comp entries c h =
     make_below (λ q. not (get_or comp q false) || list_any (begins (take (q + 1) c)) (map (λ e. e.at) entries)) (length c)
-    (λ q l. test_passes (not (get_or comp q false)) (list_any (begins (take (q + 1) c)) (map (λ e. e.at) entries)) (among q entries h))
+    (λ q l. or_right (not (get_or comp q false)) (list_any (begins (take (q + 1) c)) (map (λ e. e.at) entries)) (among q entries h))
   where
     itself : (q : ℕ) (d : List ℕ) → bytes_eq d c ≡ true → begins (take (q + 1) c) d ≡ true
     itself q d e = ap (begins (take (q + 1) c)) ((bytes_eq-Decides d c).0 e) ∙ (bytes_eq-Decides (take (length (take (q + 1) c)) c) (take (q + 1) c)).1 (again (q + 1) c)
@@ -174,7 +174,7 @@ followed_itself comp entries c h =
         by_test : (b : Bool) → bytes_eq e.at c ≡ b → (b || list_any (λ e. bytes_eq e.at c) es) ≡ true → (list_any (λ e. bytes_eq e.at c) es ≡ true → list_any (begins (take (q + 1) c)) (map (λ e. e.at) es) ≡ true)
             → (begins (take (q + 1) c) e.at || list_any (begins (take (q + 1) c)) (map (λ e. e.at) es)) ≡ true
         by_test true t k rest = ap (λ (x : Bool). x || list_any (begins (take (q + 1) c)) (map (λ e. e.at) es)) (itself q e.at t)
-        by_test false t k rest = test_passes (begins (take (q + 1) c) e.at) (list_any (begins (take (q + 1) c)) (map (λ e. e.at) es)) (rest k)
+        by_test false t k rest = or_right (begins (take (q + 1) c) e.at) (list_any (begins (take (q + 1) c)) (map (λ e. e.at) es)) (rest k)
 
 -- the whole tensor of what is packed has the entries' numbers
 pub whole_given : (ns : List ℕ) (comp : List Bool) (entries : List Given) (t : StoredTensor) (values : List ℕ) → t ≡ levels_asked ns comp entries → values ≡ map (given_at entries) t.coords

@@ -12,7 +12,7 @@ use Rattle.dt_tensor.specs.Packing.{given_at, offence}
 use Rattle.dt_tensor.specs.declared.entry.Given.{Given}
 use Rattle.dt_tensor.specs.declared.packing.PackEnd.{PackEnd}
 use Rattle.dt_tensor.specs.declared.packing.PackEnd.TheVariants as ends
-use Rattle.dt_tensor.proofs.EntryLemmas.{is_given}
+use Rattle.dt_tensor.proofs.EntryLemmas.{given_elsewhere, given_here, is_given, opened}
 use Rattle.dt_tensor.proofs.StoredTables.{Distinct, stored-set, stored-kept, stored-same, value_there}
 
 always : (a : Bool) → (a || true) ≡ true
@@ -50,15 +50,6 @@ seen_tells cs entries i k e seen r s = ap (λ (l : List Bool). get_or l k false)
 -- no number is given
 pub numbers_none : (cs : List (List ℕ)) (n i : ℕ) (entries : List Given) → n ≡ length cs → length entries ≤ i → replicate n 0 ≡ map (given_at (drop i entries)) cs
 numbers_none cs n i entries e h = ap (λ (k : ℕ). replicate k 0) e ∙ stored-same (given_at (drop i entries)) cs 0 (λ c. ap (λ (es : List Given). given_at es c) (drop_all i entries h))
-
-given_here : (e : Given) (es : List Given) → given_at (e ∷ es) e.at ≡ e.value
-given_here e es = ap (λ (b : Bool). unwrap_or (option_map (λ e. e.value) (cond b (Some e) (find (λ f. bytes_eq f.at e.at) es))) 0) (bytes_eq-same e.at)
-
-given_elsewhere : (e : Given) (es : List Given) (d : List ℕ) → (e.at ≡ d → ⊥) → given_at (e ∷ es) d ≡ given_at es d
-given_elsewhere e es d apart = ap (λ (b : Bool). unwrap_or (option_map (λ e. e.value) (cond b (Some e) (find (λ f. bytes_eq f.at d) es))) 0) (bytes_eq-apart e.at d apart)
-
-opened : (entries : List Given) (i : ℕ) (e : Given) → i < length entries → e ≡ get_or entries i e → drop i entries ≡ e ∷ drop (i + 1) entries
-opened entries i e h item = drop_more entries i e h ∙ ap (λ (f : Given). f ∷ drop (i + 1) entries) (sym item)
 
 -- one more number is given, in front of the others
 pub numbers_more : (cs : List (List ℕ)) (entries : List Given) (i m k : ℕ) (e : Given) (values : List ℕ) → Distinct cs → i < length entries → i + 1 ≡ m → e ≡ get_or entries i e → position (λ d. bytes_eq d e.at) cs ≡ Some k
