@@ -2,6 +2,7 @@ pub mod CommandFacts
 pub mod ContentFacts
 pub mod FillFacts
 pub mod FirstPart
+pub mod JobPlans
 pub mod JobTensorFacts
 pub mod NextPart
 pub mod PhaseFacts
