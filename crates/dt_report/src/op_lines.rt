@@ -1,12 +1,12 @@
 //! The lines of operations.
 
 ghost use Rattle.std.specs.Prelude.{◌≡◌, ◌++◌, OnOk};
-ghost use Rattle.dt_report.specs.PlanText.{held_text, kind_word, moved_text, op_text, origin_text, rest_text};
+ghost use Rattle.dt_report.specs.PlanText.{held_text, kind_word, moved_text, op_line, op_text, ops_text, origin_text, rest_text};
 
 use crate::words::{put_path, put_words};
 use dt_base::{Bytes, NoMemory};
 use dt_nest::{Sched, tensor_name};
-use dt_plan::{Kind, Op};
+use dt_plan::{Kind, Op, Part};
 
 /// Puts the line of an operation at the end, under its statement's schedule: its number in the listing, statement, node, path
 /// and kind, and then the units of a task, else a tensor with its words.
@@ -79,4 +79,23 @@ fn put_moved(out: &mut Bytes, sched: &Sched, op: &Op, between: &[u8]) -> Result<
     out.append_number(op.other)?;
     out.append(b" ")?;
     put_words(out, &op.words)
+}
+
+/// Puts a line for each operation at the end, each under the schedule of its statement.
+pub(crate) fn put_ops(out: &mut Bytes, parts: &[Part], ops: &[Op]) -> Result<(), NoMemory>
+    ensures { OnOk result (out.new ≡ out.old ++ ops_text parts.now ops.now) }
+{
+    for (number, op) in ops.iter().enumerate() {
+        put_op_of(out, parts, number, op)?;
+    }
+    Ok(())
+}
+
+fn put_op_of(out: &mut Bytes, parts: &[Part], number: usize, op: &Op) -> Result<(), NoMemory>
+    ensures { OnOk result (out.new ≡ out.old ++ op_line parts.now number op.now) }
+{
+    match parts.get(op.stmt as usize) {
+        None => Ok(()),
+        Some(part) => put_op(out, &part.sched, number, op),
+    }
 }
