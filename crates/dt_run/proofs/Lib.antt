@@ -5,6 +5,7 @@ pub mod LeafReads
 pub mod OverStored
 pub mod PartRuns
 pub mod Parts
+pub mod PlanAnswers
 pub mod RowFacts
 pub mod Runs
 pub mod VisitLeaves

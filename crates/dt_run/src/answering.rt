@@ -6,12 +6,14 @@ ghost use Rattle.dt_model.specs.declared.stmt.Stmt.{Stmt};
 ghost use Rattle.dt_job.specs.Jobs.{IsJob};
 ghost use Rattle.dt_job.specs.Read.{job_of};
 ghost use Rattle.dt_run.specs.Clauses.{outcome_in};
-ghost use Rattle.dt_run.specs.Outcome.{form_text, outcome_of_job, outcome_of_read, print_text, run_text, show_text};
+ghost use Rattle.dt_run.specs.Limits.{plan_cause_of};
+ghost use Rattle.dt_run.specs.Outcome.{outcome_of_job, outcome_of_read, planned, print_text, run_text, show_text};
 ghost use Rattle.dt_run.specs.Running.{AreWorkless};
 ghost use Rattle.dt_run.specs.TensorText.{dense_of, tensor_text};
 
 use crate::form::Form;
 use crate::limits::plan_cause;
+use crate::planning::answer_by_plan;
 use crate::running::run_parts;
 use crate::tensor_text::put_tensor;
 use dt_base::{Bytes, Name, NoMemory, ShortText};
@@ -39,26 +41,27 @@ pub fn answer_to(alloc: Global, form: Form, input: &[u8]) -> Result<Answer, NoMe
     }
 }
 
-/// The answer to a job: the form's text, unless the job's plan is refused.
+/// The answer to a job: the form's text, or the refusal with the first limit that the job passes.
 fn answer_to_job(alloc: Global, form: Form, job: Job) -> Result<Answer, NoMemory>
     requires job { (stmts : List Stmt) × IsJob stmts job }
     requires workless { AreWorkless job.parts }
     ensures { IfOk result (λ a. (stmts : List Stmt) → IsJob stmts job → outcome_in a ≡ outcome_of_job form (record { job = job; stmts = stmts })) }
 {
-    match plan_cause(job.parts.as_slice()) {
-        Some(cause) => Ok(Answer::Refusal(refused_plan(&cause))),
-        None => Ok(Answer::Text(text_of(alloc, form, job)?)),
+    match form {
+        Form::Run => answer_by_run(alloc, job),
+        Form::Plan => answer_by_plan(alloc, &job),
     }
 }
 
-/// What the form writes of a job.
-fn text_of(alloc: Global, form: Form, job: Job) -> Result<Bytes, NoMemory>
+/// What a run of the job prints, or the refusal where it may have too many visits.
+fn answer_by_run(alloc: Global, job: Job) -> Result<Answer, NoMemory>
     requires job { (stmts : List Stmt) × IsJob stmts job }
     requires workless { AreWorkless job.parts }
-    ensures { IfOk result (λ t. (stmts : List Stmt) → IsJob stmts job → t ≡ form_text form (record { job = job; stmts = stmts })) }
+    ensures { IfOk result (λ a. (stmts : List Stmt) → IsJob stmts job → outcome_in a ≡ planned (plan_cause_of job.parts) (run_text (record { job = job; stmts = stmts }))) }
 {
-    match form {
-        Form::Run => run(alloc, job),
+    match plan_cause(job.parts.as_slice()) {
+        Some(cause) => Ok(Answer::Refusal(refused_plan(&cause))),
+        None => Ok(Answer::Text(run(alloc, job)?)),
     }
 }
 

@@ -8,6 +8,8 @@ ghost use Rattle.dt_run.specs.Forms.{form_of};
 pub enum Form {
     /// `run`: the job is run, and its outputs are printed.
     Run,
+    /// `plan`: what the job does on its nodes is printed.
+    Plan,
 }
 
 /// What these words ask for, and none where they are no words that the program takes.
@@ -16,6 +18,7 @@ pub fn form_of(words: &[String]) -> Option<Form>
 {
     match words {
         [word] if word.as_str() == "run" => Some(Form::Run),
+        [word] if word.as_str() == "plan" => Some(Form::Plan),
         _ => None,
     }
 }

@@ -5,6 +5,7 @@
 mod answering;
 mod form;
 mod limits;
+mod planning;
 mod running;
 mod status;
 mod tensor_text;

@@ -245,7 +245,7 @@ fn reads_nothing_for_other_words(rt: HostRuntime) -> Result<(), Fail> {
         ..NO_FAULT
     };
     for line in [
-        "", "plan", "Run", "--help", "run run", "run plan", "plan run",
+        "", "plans", "Run", "--help", "run run", "run plan", "plan run",
     ] {
         let (status, out) = run(rt.alloc(), line, job(rt.alloc(), 0, b"")?, &faults)?;
         assert_eq!(rt; status, Status::BadWords, "at {line}");
