@@ -8,7 +8,7 @@ use std::alloc::Global;
 use std::test::Fail;
 
 /// The order, the bytes of a file, and its entries as they are written again, in order, or what is wrong.
-const ROWS: [(u8, &[u8], &str); 18] = [
+const ROWS: [(u8, &[u8], &str); 20] = [
     (1, b"0,1\n1,2\n", "0,1;1,2;"),
     (1, b"", ""),
     (1, b"0", "BadRow 1"),
@@ -30,6 +30,8 @@ const ROWS: [(u8, &[u8], &str); 18] = [
     ),
     (2, b"4294967296,0,1\n", "BadRow 1"),
     (2, b"0,0,18446744073709551616\n", "BadRow 1"),
+    (3, b"1,2,3,4\n", "1,2,3,4;"),
+    (4, b"1,2,3,4,5\n", "1,2,3,4,5;"),
     (4, b"1,2,3,4,5\n1,2,3,4\n0\n", "BadRow 2"),
 ];
 
@@ -67,10 +69,11 @@ fn text_of(alloc: Global, entries: &Entries) -> Result<Bytes, Fail> {
 
 #[test]
 fn stored_entries_are_written_in_order(rt: HostRuntime) -> Result<(), Fail> {
-    let rows: [(&[u32], &[u8], &str); 4] = [
-        (&[2], b"0,3\n1,6\n", "0,3\n1,6\n"),
+    let rows: [(&[u32], &[u8], &str); 5] = [
+        (&[2], b"0,1\n1,2\n", "0,1\n1,2\n"),
         (&[], b"", "0\n"),
         (&[3, 3], b"2,1,7\n0,2,5\n", "0,2,5\n2,1,7\n"),
+        (&[2, 1, 3], b"1,0,2,9\n", "1,0,2,9\n"),
         (&[2, 1, 1, 2], b"1,0,0,1,9\n", "1,0,0,1,9\n"),
     ];
     for (extents, bytes, wanted) in rows {
