@@ -9,6 +9,7 @@ pub mod BlockRuns
 pub mod BlockSteps
 pub mod BlockSums
 pub mod Cells
+pub mod EventPairs
 pub mod Frames
 pub mod JobBlocks
 pub mod JobLists

@@ -15,6 +15,7 @@ mod presence_laws;
 mod state_laws;
 #[cfg(test)]
 mod tests;
+mod tracking;
 
 pub use events::{Events, events_of};
 pub use events_end::EventsEnd;
@@ -23,3 +24,4 @@ pub use laws::plan_conflicts_are_joined;
 pub use listing_runs::{listings_run, orders_leave_the_numbers};
 pub use presence_laws::buffers_are_opened_whole;
 pub use state_laws::{lists_have_frames, units_keep_to_footprints};
+pub use tracking::tracker_of;

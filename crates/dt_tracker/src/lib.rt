@@ -7,6 +7,8 @@ mod laws;
 mod release;
 mod rows;
 mod step;
+#[cfg(test)]
+mod tests;
 mod tracker;
 
 pub use laws::{none_is_stuck, trackers_follow_orders};
