@@ -39,7 +39,7 @@ greatest_in f x (y ∷ xs) (inl e) = let a = greatest-cons (f y) (map f xs) in l
 greatest_in f x (y ∷ xs) (inr h) = let a = greatest-cons (f y) (map f xs) in let b = greatest_in f x xs h in omega (arith, a, b)
 
 -- the element of an option
-some_same : (p q : Part) → Some p ≡ Some q → p ≡ q
+pub some_same : (p q : Part) → Some p ≡ Some q → p ≡ q
 some_same p q e = cc
 
 -- what holds of an element at a number

@@ -35,7 +35,7 @@ use Rattle.dt_events.specs.State.{Word, State}
 use Rattle.dt_events.specs.Units.{scratch_of}
 use Rattle.dt_events.specs.Jobs.{op_at, state_of, listing_of, at_of}
 use Rattle.dt_events.specs.ListingRuns.{IsReady}
-use Rattle.dt_events.specs.LiveWords.{size_of, held_words, live_of, LiveWordsAreBounded}
+use Rattle.dt_events.specs.LiveWords.{size_of, held_words, live_of, HomesStay, LiveWordsAreBounded}
 use Rattle.dt_events.specs.Placed.{CanRun, AreNumbers}
 use Rattle.dt_events.specs.PresenceLaws.{count_below}
 use Rattle.dt_events.proofs.AllocWords.{greatest_in}
@@ -114,6 +114,13 @@ not_on_home l o n t h = go (nat_lt o.tensor (length l.stored)) (and_parts (nat_e
     go true g = cc
     go false g = cc
 
+-- so exactly the words of the homes are present
+pub homes_stay : HomesStay
+homes_stay l x done n t w =
+    ops_alike l (ops_of l) (is_listed (events_of (plan_view l))) (state_of l x) n (Home t) done none_done (length (ops_of l)) (λ a h on. absurd (not_on_home l (op_at (ops_of l) a) n t on)) w
+    ∙ ap (λ (s : State). is_some (s (Word n (Home t) w))) (starts l x (length (ops_of l)))
+    ∙ there (contains (home_at (homes_at l t) n) w) (x t (coords_at (tensor_at l.stored t) w))
+
 module _ (l : Layout) (ready : IsReady l) (x : Entries) (numbers : AreNumbers l x) (u : List ℕ) (allowed : IsAllowed (listing_of l x) u) (n : ℕ) where
   abbrev S : State
   S = at_of l x (counts_of u)
@@ -124,16 +131,10 @@ module _ (l : Layout) (ready : IsReady l) (x : Entries) (numbers : AreNumbers l 
   abbrev numbered : List (ℕ × Part)
   numbered = zip (below (length l.parts)) l.parts
 
-  home_there : (t w : ℕ) → is_some (S (Word n (Home t) w)) ≡ contains (home_at (homes_at l t) n) w
-  home_there t w =
-      ops_alike l (ops_of l) (is_listed (events_of (plan_view l))) (state_of l x) n (Home t) (counts_of u) none_done (length (ops_of l)) (λ a h on. absurd (not_on_home l (op_at (ops_of l) a) n t on)) w
-      ∙ ap (λ (s : State). is_some (s (Word n (Home t) w))) (starts l ready x numbers (length (ops_of l)))
-      ∙ there (contains (home_at (homes_at l t) n) w) (x t (coords_at (tensor_at l.stored t) w))
-
   home_costs : (t : ℕ) → held (Home t) ≤ cost_of (tensor_at l.stored t) * length (home_at (homes_at l t) n)
   home_costs t =
       let same : count_below (λ w. is_some (S (Word n (Home t) w))) (size_of l (Home t)) ≡ count_below (contains (home_at (homes_at l t) n)) (size_of l (Home t)) =
-      count_same (λ w. is_some (S (Word n (Home t) w))) (contains (home_at (homes_at l t) n)) (size_of l (Home t)) (home_there t) in
+      count_same (λ w. is_some (S (Word n (Home t) w))) (contains (home_at (homes_at l t) n)) (size_of l (Home t)) (homes_stay l x (counts_of u) n t) in
       let few = count_contains (home_at (homes_at l t) n) (size_of l (Home t)) in
       mul-le (cost_of (tensor_at l.stored t)) (count_below (λ w. is_some (S (Word n (Home t) w))) (size_of l (Home t))) (cost_of (tensor_at l.stored t)) (length (home_at (homes_at l t) n)) (omega arith) (omega (arith, same, few))
 

@@ -26,6 +26,7 @@ use Rattle.dt_events.specs.Jobs.{op_at, segment_in, ops_conflict, state_of, list
 use Rattle.dt_events.specs.ListingRuns.{IsReady}
 use Rattle.dt_events.specs.LiveWords.{ScratchIsOfOneSegment}
 use Rattle.dt_events.specs.Placed.{AreNumbers, numbers_after_all}
+use Rattle.dt_events.proofs.AllocWords.{some_same}
 use Rattle.dt_events.proofs.Frames.{op_within}
 use Rattle.dt_events.proofs.JobRuns.{listings_run, ready_ordered, allowed_run}
 use Rattle.dt_events.proofs.PresenceChanges.{Differs, differs}
@@ -65,15 +66,17 @@ stmt_earlier ops h a b inside less = go (cases_lt a b) (cases_eq b a)
 
 -- Segments -------------------------------------------------------------------------------------------------------------------
 
-some_part : (p q : Part) → Some p ≡ Some q → p ≡ q
-some_part p q e = cc
-
 pub some_state : (s t : State) → Some s ≡ Some t → s ≡ t
 some_state s t e = cc
 
 -- the segment of an operation is that of its statement's part
 segment_is : (l : Layout) (o : Op) (k : ℕ) (p : Part) → o.stmt ≡ k → slice_get l.parts k ≡ Some p → segment_in l o ≡ p.segment
 segment_is l o k p e here = ap (λ (x : Option Part). unwrap_or (option_map (λ (q : Part). q.segment) x) 0) (ap (λ (j : ℕ). slice_get l.parts j) e ∙ here)
+
+-- the state at the start
+pub starts : (l : Layout) (x : Entries) (first : ℕ) → after_ops (listing_of l x) first none_done ≡ state_of l x
+starts l x zero = refl
+starts l x (suc first) = starts l x first
 
 module _ (l : Layout) (ready : IsReady l) (x : Entries) (numbers : AreNumbers l x) where
   abbrev J : Listing Cell
@@ -83,16 +86,11 @@ module _ (l : Layout) (ready : IsReady l) (x : Entries) (numbers : AreNumbers l 
   ends : state_at J J.units ≡ state_of l (numbers_after_all l.stored l.parts x)
   ends = some_state (state_at J J.units) (state_of l (numbers_after_all l.stored l.parts x)) (sym (in_turn_ends J (ready_ordered l ready x numbers).defined) ∙ listings_run l ready x numbers)
 
-  -- and at the start
-  pub starts : (first : ℕ) → after_ops J first none_done ≡ state_of l x
-  starts zero = refl
-  starts (suc first) = starts first
-
   module _ (u : List ℕ) (allowed : IsAllowed J u) where
     -- scratch that is present has an operation that has begun
     begun : (n k t w : ℕ) → is_some (at_of l x (counts_of u) (Word n (Scratch k t) w)) ≡ true → Differs l (ops_of l) n (Scratch k t) (counts_of u) none_done (length (ops_of l))
     begun n k t w h =
-        differs l (ops_of l) (is_listed (events_of (plan_view l))) (state_of l x) n (Scratch k t) (counts_of u) none_done w h (ap (λ (s : State). is_some (s (Word n (Scratch k t) w))) (starts (length (ops_of l))))
+        differs l (ops_of l) (is_listed (events_of (plan_view l))) (state_of l x) n (Scratch k t) (counts_of u) none_done w h (ap (λ (s : State). is_some (s (Word n (Scratch k t) w))) (starts l x (length (ops_of l))))
 
     -- and one that is not finished
     unfinished : (n k t w : ℕ) → is_some (at_of l x (counts_of u) (Word n (Scratch k t) w)) ≡ true → Differs l (ops_of l) n (Scratch k t) (counts_of u) J.units (length (ops_of l))
@@ -133,7 +131,7 @@ module _ (l : Layout) (ready : IsReady l) (x : Entries) (numbers : AreNumbers l 
         go (inr d) (inr y) (inl z) = absurd (others (unfinished n k r w h) (begun m j t v g) z (λ e. d (sym e)))
         go (inr d) (inr y) (inr z) =
             let same : j ≡ k = omega (arith, y, z) in
-            ap (λ (o : Part). o.segment) (some_part p q (sym hp ∙ ap (λ (i : ℕ). slice_get l.parts i) same ∙ hq))
+            ap (λ (o : Part). o.segment) (some_same p q (sym hp ∙ ap (λ (i : ℕ). slice_get l.parts i) same ∙ hq))
 
 -- so it is after each list that the events allow
 pub one_segment : ScratchIsOfOneSegment

@@ -1,12 +1,14 @@
 -- The words that a node holds, and laws of how many they are at most.
 use Rattle.std.specs.Prelude.{◌≡◌, ℕ, ◌*◌, ◌≤◌, true, List, length, Some, is_some, option_map, unwrap_or, slice_get, sum_by}
+use Rattle.dt_runs.specs.Sets.{contains}
 use Rattle.dt_model.specs.Positions.{cost_of, tensor_at}
 use Rattle.dt_nest.specs.Meaning.{Entries}
+use Rattle.dt_copy.specs.Sources.{home_at}
 use Rattle.dt_argument.specs.Orders.{IsAllowed}
 use Rattle.dt_plan.specs.declared.parts.Part.{Part}
 use Rattle.dt_plan.specs.declared.touches.Buffer.{Buffer}
 use Rattle.dt_plan.specs.declared.touches.Buffer.TheVariants.{Home, Scratch, Work}
-use Rattle.dt_plan.specs.Layouts.{Layout}
+use Rattle.dt_plan.specs.Layouts.{Layout, homes_at}
 use Rattle.dt_plan.specs.Operations.{work_size}
 use Rattle.dt_plan.specs.Bounds.{scratch_words, bound_of, buffers_of}
 use Rattle.dt_events.specs.State.{Word, State}
@@ -35,6 +37,10 @@ held_words l n s b = word_cost l b * count_below (λ w. is_some (s (Word n b w))
 -- what all that is present on a node costs
 abbrev pub live_of : Layout → ℕ → State → ℕ
 live_of l n s = sum_by (held_words l n s) (buffers_of l)
+
+-- Whatever numbers of units are done, exactly the words of its home are present of a tensor's home on a node.
+abbrev pub HomesStay : Type 0
+HomesStay = (l : Layout) (x : Entries) (done : ℕ → ℕ) (n t w : ℕ) → is_some (at_of l x done (Word n (Home t) w)) ≡ contains (home_at (homes_at l t) n) w
 
 -- Whatever numbers of units are done, a tensor's scratch in a statement costs no more than on the greatest of its paths on the node.
 abbrev pub ScratchIsBounded : Type 0

@@ -22,6 +22,8 @@ pub use events_end::EventsEnd;
 pub use job_laws::{every_order_of_a_job, jobs_meet_the_facts};
 pub use laws::plan_conflicts_are_joined;
 pub use listing_runs::{listings_run, orders_leave_the_numbers};
-pub use live_words::{live_words_are_bounded, scratch_is_bounded, scratch_is_of_one_segment};
+pub use live_words::{
+    homes_stay, live_words_are_bounded, scratch_is_bounded, scratch_is_of_one_segment,
+};
 pub use presence_laws::buffers_are_opened_whole;
 pub use state_laws::{lists_have_frames, units_keep_to_footprints};

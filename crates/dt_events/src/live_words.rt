@@ -1,6 +1,11 @@
 //! Laws of the words that nodes hold.
 
-ghost use Rattle.dt_events.specs.LiveWords.{LiveWordsAreBounded, ScratchIsBounded, ScratchIsOfOneSegment};
+ghost use Rattle.dt_events.specs.LiveWords.{HomesStay, LiveWordsAreBounded, ScratchIsBounded, ScratchIsOfOneSegment};
+
+/// Whatever numbers of units are done, exactly the words of its home are present of a tensor's home on a node.
+pub fn homes_stay()
+    ensures { HomesStay }
+{}
 
 /// Whatever numbers of units are done, a tensor's scratch in a statement costs no more on a node than on the greatest of its paths
 /// there.
