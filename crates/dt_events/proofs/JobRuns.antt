@@ -58,7 +58,7 @@ zip_second P (i ∷ is) [] h = tt
 zip_second P (i ∷ is) (p ∷ ps) h = (h.0, zip_second P is ps h.1)
 
 -- the parts are those with their numbers, without these
-seconds : (is : List ℕ) (ps : List Part) → length is ≡ length ps → map (λ (x : ℕ × Part). x.1) (zip is ps) ≡ ps
+pub seconds : (is : List ℕ) (ps : List Part) → length is ≡ length ps → map (λ (x : ℕ × Part). x.1) (zip is ps) ≡ ps
 seconds [] [] e = refl
 seconds [] (p ∷ ps) e = absurd (omega (arith, e))
 seconds (i ∷ is) [] e = absurd (omega (arith, e))

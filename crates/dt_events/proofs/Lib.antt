@@ -1,3 +1,4 @@
+pub mod AllocWords
 pub mod Apart
 pub mod BlockFolds
 pub mod BlockLevels
@@ -21,6 +22,7 @@ pub mod JobTaskSums
 pub mod JobZeros
 pub mod JobTasks
 pub mod ListRuns
+pub mod LiveBounds
 pub mod MoveFrames
 pub mod NamedFacts
 pub mod NearestSteps
@@ -28,8 +30,11 @@ pub mod OperationMoves
 pub mod OwnCells
 pub mod TaskFrames
 pub mod TaskItems
+pub mod OneSegment
 pub mod Presence
+pub mod PresenceChanges
 pub mod PresentCounts
+pub mod ScratchWords
 pub mod Touched
 pub mod VisitReads
 pub mod VisitedLeaves

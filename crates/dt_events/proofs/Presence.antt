@@ -65,11 +65,11 @@ item_there l o (Some p) (Some item) s c =
     (own_or_other l o.stmt o.node s c)
 
 -- whether the operation is on the buffer and the node
-abbrev is_on : Layout → Op → ℕ → Buffer → Bool
+abbrev pub is_on : Layout → Op → ℕ → Buffer → Bool
 is_on l o n b = nat_eq o.node n && is_same_buffer (scratch_of l o) b
 
 -- whether a word is present after a unit, by whether it was before
-abbrev turned : Kind → Layout → Op → ℕ → Buffer → ℕ → Bool → Bool
+abbrev pub turned : Kind → Layout → Op → ℕ → Buffer → ℕ → Bool → Bool
 turned kind.Zero l o n b w x = x
 turned kind.Alloc l o n b w x = if is_on l o n b then contains o.words w else x
 turned kind.Copy l o n b w x = x
@@ -85,7 +85,7 @@ some_if : (t : Bool) (x y : Option ℕ) → is_some (if t then x else y) ≡ (if
 some_if true x y = refl
 some_if false x y = refl
 
-next_turned : (what : Kind) (l : Layout) (o : Op) (i : ℕ) (s : State) (n : ℕ) (b : Buffer) (w : ℕ) → is_some (next_by what l o i s (Word n b w)) ≡ turned what l o n b w (is_some (s (Word n b w)))
+pub next_turned : (what : Kind) (l : Layout) (o : Op) (i : ℕ) (s : State) (n : ℕ) (b : Buffer) (w : ℕ) → is_some (next_by what l o i s (Word n b w)) ≡ turned what l o n b w (is_some (s (Word n b w)))
 next_turned kind.Zero l o i s n b w = overwritten_there o.node (Home o.tensor) o.words 0 s (Word n b w)
 next_turned kind.Alloc l o i s n b w =
     some_if (is_on l o n b) (if contains o.words w then Some 0 else None) (s (Word n b w)) ∙ ap (λ x. if is_on l o n b then x else is_some (s (Word n b w))) (opened_there (contains o.words w))

@@ -21,10 +21,10 @@ abbrev one_if : Bool → ℕ
 one_if b = if b then 1 else 0
 
 -- tests that are equal count the same
-count_same : (f g : ℕ → Bool) (n : ℕ) → ((w : ℕ) → f w ≡ g w) → count_below f n ≡ count_below g n
+pub count_same : (f g : ℕ → Bool) (n : ℕ) → ((w : ℕ) → f w ≡ g w) → count_below f n ≡ count_below g n
 count_same f g n h = let e : f ≡ g = λ i w. h w i in ap (λ x. count_below x n) e
 
-count_none : (n : ℕ) → count_below (λ w. false) n ≡ 0
+pub count_none : (n : ℕ) → count_below (λ w. false) n ≡ 0
 count_none zero = refl
 count_none (suc n) = let again = count_none n in omega (arith, again)
 
@@ -62,7 +62,7 @@ count_one v (suc n) =
     (cases_Bool (nat_eq v n))
 
 -- no more numbers are in a list than it is long
-count_contains : (words : List ℕ) (n : ℕ) → count_below (contains words) n ≤ length words
+pub count_contains : (words : List ℕ) (n : ℕ) → count_below (contains words) n ≤ length words
 count_contains [] n = let none = count_none n in omega (arith, none)
 count_contains (v ∷ vs) n =
     let a = count_either (nat_eq v) (contains vs) n in

@@ -9,6 +9,7 @@ use Rattle.dt_nest.specs.Lawful.{IsLawful}
 use Rattle.dt_nest.specs.Meaning.{known}
 use Rattle.dt_nest.specs.Visits.{visits_of, needed_of}
 use Rattle.dt_nest.proofs.ChainLawful.{stmt_lawful}
+use Rattle.dt_plan.specs.Bounds.{bound_of}
 use Rattle.dt_plan.specs.Operations.{ops_of}
 use Rattle.dt_plan.specs.Footprints.{footprints_of}
 use Rattle.dt_events.specs.Conflicts.{some_meet}
@@ -61,6 +62,11 @@ product_runnable = (record { lawful = product_lawful; unread = refl; tensors = r
 pub copies_unmet : some_meet (footprints_of product_layout (op_at (ops_of product_layout) 4)) (footprints_of product_layout (op_at (ops_of product_layout) 5)) ≡ false
 unfolding ops_of visits_of needed_of known
 copies_unmet = refl
+
+-- its homes have 12 words, and so have their scratches
+pub product_bound : bound_of product_layout 0 ≡ 24
+unfolding visits_of needed_of known
+product_bound = refl
 
 -- the task is no zero
 pub task_words : HasWords (op_at (ops_of product_layout) 6)

@@ -3,6 +3,7 @@ pub mod Events
 pub mod JobLaws
 pub mod Jobs
 pub mod ListingRuns
+pub mod LiveWords
 pub mod Placed
 pub mod PresenceLaws
 pub mod State

@@ -1,25 +1,27 @@
 //! What the laws say of a matrix product on one node.
 
-ghost use Rattle.std.specs.Prelude.{◌≡◌, ◌⊎◌, ℕ, List, [], ◌∷◌, length, Some};
+ghost use Rattle.std.specs.Prelude.{◌≡◌, ◌⊎◌, ℕ, ◌≤◌, List, [], ◌∷◌, length, Some};
 ghost use Rattle.dt_argument.specs.Facts.{HasFrames, IsOrdered};
 ghost use Rattle.dt_argument.specs.Frames.{AreApart, IsFramed};
 ghost use Rattle.dt_argument.specs.Orders.{IsAllowed, IsComplete, counts_of, listing_order};
+ghost use Rattle.dt_plan.specs.Bounds.{bound_of};
 ghost use Rattle.dt_plan.specs.Operations.{ops_of};
 ghost use Rattle.dt_plan.specs.declared.touches.Buffer.TheVariants.{Scratch};
 ghost use Rattle.dt_plan.specs.Footprints.{footprints_of};
 ghost use Rattle.dt_events.specs.JobLaws.{IsListingDefined};
 ghost use Rattle.dt_events.specs.Jobs.{at_of, listing_of, op_at, run_of, state_of};
 ghost use Rattle.dt_events.specs.ListingRuns.{IsReady};
+ghost use Rattle.dt_events.specs.LiveWords.{live_of};
 ghost use Rattle.dt_events.specs.Placed.{AreNumbers, numbers_after_all};
 ghost use Rattle.dt_events.specs.PresenceLaws.{IsClosed, IsOpen};
-ghost use Rattle.dt_events.specs.State.{touches_at};
+ghost use Rattle.dt_events.specs.State.{State, touches_at};
 ghost use Rattle.dt_events.specs.StateLaws.{AreRunnable};
 ghost use Rattle.dt_events.specs.Units.{can_do, next_of};
 ghost use Rattle.dt_events.specs.Worked.{given_numbers, product_layout, result_of};
 
 use crate::{
     buffers_are_opened_whole, every_order_of_a_job, jobs_meet_the_facts, listings_run,
-    lists_have_frames, orders_leave_the_numbers, units_keep_to_footprints,
+    lists_have_frames, live_words_are_bounded, orders_leave_the_numbers, units_keep_to_footprints,
 };
 use std::test::Fail;
 
@@ -91,6 +93,16 @@ fn the_scratch_is_opened_whole()
     buffers_are_opened_whole();
 }
 
+/// The homes of A, B and C have 12 words, and as many have their scratches: no order passes 24.
+fn no_order_passes_the_bound()
+    ensures opening { live_of product_layout 0 (state_of product_layout given_numbers) ≡ 12 }
+    ensures bound { bound_of product_layout 0 ≡ 24 }
+    ensures orders { (u : List ℕ) (s : State) → IsAllowed (listing_of product_layout given_numbers) u → run_of product_layout given_numbers u ≡ Some s → live_of product_layout 0 s ≤ 24 }
+{
+    the_product_is_ready();
+    live_words_are_bounded();
+}
+
 #[test]
 fn a_product_in_every_order(rt: HostRuntime) -> Result<(), Fail> {
     the_product_is_runnable();
@@ -101,5 +113,6 @@ fn a_product_in_every_order(rt: HostRuntime) -> Result<(), Fail> {
     the_product_is_ready();
     every_order_leaves_the_numbers();
     the_scratch_is_opened_whole();
+    no_order_passes_the_bound();
     Ok(())
 }
