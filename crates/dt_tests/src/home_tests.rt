@@ -3,6 +3,7 @@
 ghost use Rattle.std.specs.Prelude.{◌<◌, ◌^◌, ◌-◌, length, IfOk};
 ghost use Rattle.dt_place.specs.Placements.{IsPlacement};
 
+use crate::matrices::sparse_matrix;
 use dt_base::NoMemory;
 use dt_model::Shape;
 use dt_place::{Machine, Placement, homes_on, parse_machine, parse_place};
@@ -41,22 +42,21 @@ fn zeros(alloc: Global, extents: &[u32]) -> Result<Tensors, Fail> {
     Ok(Tensors::from_list(vec![in alloc; Tensor::dense(shape, values)]?))
 }
 
-/// The homes of a tensor with these extents, a line for each node: each interval from its first number up to, not
+/// The homes of the first tensor, a line for each node: each interval from its first number up to, not
 /// including, its end.
 fn homes_text(
     alloc: Global,
     placement: &Placement,
     machine: &Machine,
-    extents: &[u32],
+    tensors: &Tensors,
 ) -> Result<String, Fail>
     requires { IsPlacement placement.now machine.now }
 {
-    let tensors = zeros(alloc, extents)?;
     let mut text = String::new(alloc);
     if tensors.len() == 0 {
         return Ok(text);
     }
-    let homes = homes_on(alloc, placement, machine, &tensors, 0)?;
+    let homes = homes_on(alloc, placement, machine, tensors, 0)?;
     for home in homes.as_slice() {
         for interval in home.intervals() {
             let piece = format!(in alloc; "{}..{} ", interval.first, interval.end)?;
@@ -94,7 +94,8 @@ fn matrices_lie_in_blocks(rt: HostRuntime) -> Result<(), Fail> {
         assert!(rt; level.len() < 100 && line.len() < 100);
         let machine = machine(alloc, level)?;
         let placement = placement(alloc, line, &machine)?;
-        let text = homes_text(alloc, &placement, &machine, extents)?;
+        let tensors = zeros(alloc, extents)?;
+        let text = homes_text(alloc, &placement, &machine, &tensors)?;
         assert_eq!(rt; text.as_str(), homes);
     }
     Ok(())
@@ -104,9 +105,42 @@ fn matrices_lie_in_blocks(rt: HostRuntime) -> Result<(), Fail> {
 fn other_tensors_lie_in_blocks_of_positions_or_on_node_0(rt: HostRuntime) -> Result<(), Fail> {
     let alloc = rt.alloc();
     let machine = machine(alloc, b" 2x2")?;
-    let blocks = homes_text(alloc, &Placement::ByPositions, &machine, &[5, 5])?;
+    let tensors = zeros(alloc, &[5, 5])?;
+    let blocks = homes_text(alloc, &Placement::ByPositions, &machine, &tensors)?;
     assert_eq!(rt; blocks.as_str(), "0..7 \n7..14 \n14..21 \n21..25 \n");
-    let whole = homes_text(alloc, &Placement::first_node(), &machine, &[5, 5])?;
+    let whole = homes_text(alloc, &Placement::first_node(), &machine, &tensors)?;
     assert_eq!(rt; whole.as_str(), "0..25 \n\n\n\n");
+    Ok(())
+}
+
+#[test]
+fn stored_numbers_lie_in_blocks_of_positions(rt: HostRuntime) -> Result<(), Fail> {
+    let alloc = rt.alloc();
+    let machine = machine(alloc, b" 3")?;
+    let tensors = Tensors::from_list(vec![in alloc; sparse_matrix(alloc)?]?);
+    let text = homes_text(alloc, &Placement::ByPositions, &machine, &tensors)?;
+    assert_eq!(rt; text.as_str(), "0..2 \n2..4 \n\n");
+    Ok(())
+}
+
+/// Homes of the matrix with compressed columns, whose positions are those of its stored numbers: a level of the machine, a
+/// line, and the homes.
+const SPARSE_HOMES: [(&[u8], &[u8], &str); 3] = [
+    (b" 2x2", b" B xy -> xy", "0..1 \n1..2 \n2..3 \n3..4 \n"),
+    (b" 4", b" B xy -> x", "0..2 \n\n2..3 \n3..4 \n"),
+    (b" 4", b" B xy -> y", "2..3 \n0..1 \n\n1..2 3..4 \n"),
+];
+
+#[test]
+fn stored_numbers_lie_in_blocks(rt: HostRuntime) -> Result<(), Fail> {
+    let alloc = rt.alloc();
+    let tensors = Tensors::from_list(vec![in alloc; sparse_matrix(alloc)?]?);
+    for (level, line, homes) in SPARSE_HOMES {
+        assert!(rt; level.len() < 100 && line.len() < 100);
+        let machine = machine(alloc, level)?;
+        let placement = placement(alloc, line, &machine)?;
+        let text = homes_text(alloc, &placement, &machine, &tensors)?;
+        assert_eq!(rt; text.as_str(), homes);
+    }
     Ok(())
 }

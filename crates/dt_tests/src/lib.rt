@@ -12,6 +12,8 @@ mod home_tests;
 #[cfg(test)]
 mod job_tests;
 #[cfg(test)]
+mod matrices;
+#[cfg(test)]
 mod need_tests;
 #[cfg(test)]
 mod nest_tests;

@@ -1,5 +1,6 @@
 //! Needed words of statements' schedules, worked out by hand.
 
+use crate::matrices::sparse_matrix;
 use crate::statements::needed_in;
 use dt_base::{Extents, NoMemory, Vars};
 use dt_model::{Access, Factor, Factors, Shape, Stmt, Term, Terms};
@@ -66,14 +67,18 @@ fn statement(alloc: Global, written: &Written) -> Result<Stmt, NoMemory> {
 fn zeros(alloc: Global, shapes: &[&[u32]]) -> Result<Tensors, Fail> {
     let mut list = Vec::new(alloc);
     for extents in shapes {
-        let shape = Shape::from_extents(*extents).ok_or("no shape")?;
-        let count = shape.count();
-        if count > 1048576 {
-            return Err("too many")?;
-        }
-        list.push(Tensor::dense(shape, vec![in alloc; 0u64; count as usize]?))?;
+        list.push(zero(alloc, *extents)?)?;
     }
     Ok(Tensors::from_list(list))
+}
+
+fn zero(alloc: Global, extents: &[u32]) -> Result<Tensor, Fail> {
+    let shape = Shape::from_extents(extents).ok_or("no shape")?;
+    let count = shape.count();
+    if count > 1048576 {
+        return Err("too many")?;
+    }
+    Ok(Tensor::dense(shape, vec![in alloc; 0u64; count as usize]?))
 }
 
 /// Whether the set has these numbers, which ascend.
@@ -90,10 +95,20 @@ fn has(runs: &Runs, positions: &[u32]) -> bool {
 
 /// Whether the needed words are those of the rows.
 fn agree(alloc: Global, written: &Written, rows: &[Row]) -> Result<bool, Fail> {
-    let stmt = statement(alloc, written)?;
     let tensors = zeros(alloc, written.shapes)?;
+    agree_over(alloc, written, &tensors, rows)
+}
+
+/// The same over these tensors.
+fn agree_over(
+    alloc: Global,
+    written: &Written,
+    tensors: &Tensors,
+    rows: &[Row],
+) -> Result<bool, Fail> {
+    let stmt = statement(alloc, written)?;
     for (path, tensor, positions) in rows {
-        let runs = needed_in(alloc, &stmt, &tensors, *tensor, *path)?.ok_or("no words")?;
+        let runs = needed_in(alloc, &stmt, tensors, *tensor, *path)?.ok_or("no words")?;
         if !has(&runs, *positions) {
             return Ok(false);
         }
@@ -163,6 +178,39 @@ const SCALAR_WORDS: [Row; 5] = [
     (&[2], C, &[0]),
     (&[2], 3, &[]),
 ];
+
+/// A(i) = B(i,j) * C(j), where B has compressed columns.
+const SPMV: Written = Written {
+    extents: &[4, 4],
+    shapes: &[&[4], &[4, 4], &[4]],
+    left: (A, &[0]),
+    adds: false,
+    terms: &[&[Part::At(B, &[0, 1]), Part::At(C, &[1])]],
+};
+
+const SPMV_WORDS: [Row; 9] = [
+    (&[], B, &[0, 1, 2, 3]),
+    (&[0], B, &[0, 1]),
+    (&[1], B, &[]),
+    (&[2], B, &[2]),
+    (&[3], B, &[3]),
+    (&[0, 2], B, &[]),
+    (&[0, 3], B, &[1]),
+    (&[1], C, &[0, 1, 2, 3]),
+    (&[1], A, &[1]),
+];
+
+#[test]
+fn words_of_compressed_levels_are_stored_numbers(rt: HostRuntime) -> Result<(), Fail> {
+    let alloc = rt.alloc();
+    let mut list = Vec::new(alloc);
+    list.push(zero(alloc, &[4])?)?;
+    list.push(sparse_matrix(alloc)?)?;
+    list.push(zero(alloc, &[4])?)?;
+    let tensors = Tensors::from_list(list);
+    assert!(rt; agree_over(alloc, &SPMV, &tensors, &SPMV_WORDS)?);
+    Ok(())
+}
 
 #[test]
 fn a_path_has_values_of_the_outermost_loops(rt: HostRuntime) -> Result<(), Fail> {
