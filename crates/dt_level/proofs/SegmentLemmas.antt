@@ -46,16 +46,13 @@ le_last (a ∷ b ∷ rest) zero up h =
 le_last (a ∷ b ∷ rest) (suc p) up h =
     omega (arith, le_last (b ∷ rest) p (and_parts (nat_le a b) _ up).1 (omega arith), last_behind a b rest)
 
-pub length-slice_range : (xs : List ℕ) (a b : ℕ) → b ≤ length xs → length (slice_range xs a b) ≡ b - a
-length-slice_range xs a b h = length-take-le (b - a) (drop a xs) (omega (arith, length-drop a xs))
-
 -- as many children as the segment's ends are apart
 pub length-segment : (pos crd : List ℕ) (p : ℕ) → never_falls pos ≡ true → get_or pos (length pos - 1) 0 ≡ length crd → suc p < length pos
     → get_or pos p 0 + length (get_or (segments pos crd) p []) ≡ get_or pos (suc p) 0
 length-segment pos crd p up end h =
     let le = next_le pos p up h in
     let within = le_last pos (suc p) up h in
-    omega (arith, ap length (segment_at pos crd p h), length-slice_range crd (get_or pos p 0) (get_or pos (suc p) 0) (omega arith))
+    omega (arith, ap length (segment_at pos crd p h), length-take-le (get_or pos (suc p) 0 - get_or pos p 0) (drop (get_or pos p 0) crd) (omega (arith, length-drop (get_or pos p 0) crd)))
 
 -- the segments before a place have the numbers before the one at which the next begins
 pub length-before : (pos crd : List ℕ) (p : ℕ) → never_falls pos ≡ true → get_or pos (length pos - 1) 0 ≡ length crd → p < length pos
@@ -68,7 +65,7 @@ length-before (a ∷ b ∷ rest) crd (suc p) up end h =
     let tail = (and_parts (nat_le a b) _ up).1 in
     let behind : get_or (b ∷ rest) (length (b ∷ rest) - 1) 0 ≡ length crd = sym (last_behind a b rest) ∙ end in
     let within = le_last (b ∷ rest) zero tail (omega arith) in
-    omega (arith, length-before (b ∷ rest) crd p tail behind (omega arith), length-slice_range crd a b (omega arith), sum_by-cons length (slice_range crd a b) (take p (segments (b ∷ rest) crd)))
+    omega (arith, length-before (b ∷ rest) crd p tail behind (omega arith), length-take-le (b - a) (drop a crd) (omega (arith, length-drop a crd)), sum_by-cons length (slice_range crd a b) (take p (segments (b ∷ rest) crd)))
 
 -- all segments together are crd behind the first number
 pub length-all : (pos crd : List ℕ) → never_falls pos ≡ true → get_or pos (length pos - 1) 0 ≡ length crd → 0 < length pos
@@ -80,7 +77,7 @@ length-all (a ∷ b ∷ rest) crd up end h =
     let tail = (and_parts (nat_le a b) _ up).1 in
     let behind : get_or (b ∷ rest) (length (b ∷ rest) - 1) 0 ≡ length crd = sym (last_behind a b rest) ∙ end in
     let within = le_last (b ∷ rest) zero tail (omega arith) in
-    omega (arith, length-all (b ∷ rest) crd tail behind (omega arith), length-slice_range crd a b (omega arith), sum_by-cons length (slice_range crd a b) (segments (b ∷ rest) crd))
+    omega (arith, length-all (b ∷ rest) crd tail behind (omega arith), length-take-le (b - a) (drop a crd) (omega (arith, length-drop a crd)), sum_by-cons length (slice_range crd a b) (segments (b ∷ rest) crd))
 
 -- each number is less than the next
 next_lt : (xs : List ℕ) (k : ℕ) → ascends xs ≡ true → suc k < length xs → get_or xs k 0 < get_or xs (suc k) 0

@@ -29,7 +29,8 @@ use Rattle.dt_nest.proofs.PathDepths.{fewer_loops, assigned_paths}
 use Rattle.dt_nest.proofs.PathSums.{root_sum}
 use Rattle.dt_nest.proofs.PathUnions.{empty_of, flat_filter, visits_follow_visited, sums_follow_visited, unvisited_adds}
 
-flat_flat : {X Y Z : Type 0} (g : Y → List Z) (h : X → List Y) (xs : List X) → flat_map g (flat_map h xs) ≡ flat_map (λ x. flat_map g (h x)) xs
+-- lists made of the elements of lists
+pub flat_flat : {X Y Z : Type 0} (g : Y → List Z) (h : X → List Y) (xs : List X) → flat_map g (flat_map h xs) ≡ flat_map (λ x. flat_map g (h x)) xs
 flat_flat g h [] = refl
 flat_flat g h (x ∷ xs) = flat_map-append g (h x) (flat_map h xs) ∙ ap (λ l. flat_map g (h x) ++ l) (flat_flat g h xs)
 

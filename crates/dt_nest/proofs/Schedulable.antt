@@ -12,7 +12,8 @@ use Rattle.dt_nest.proofs.Each.{all_flat, all_of}
 use Rattle.dt_nest.specs.Tree.{factor_accesses, read_accesses}
 use Rattle.dt_nest.specs.Chain.{IsAccessOf, IsSchedulable}
 
-get_exists : {X : Type 0} (xs : List X) (k : ℕ) (y : X) → slice_get xs k ≡ Some y → k < length xs
+-- a number that has an element is one of a place
+pub get_exists : {X : Type 0} (xs : List X) (k : ℕ) (y : X) → slice_get xs k ≡ Some y → k < length xs
 get_exists [] k y e = absurd (cc)
 get_exists (x ∷ xs) zero y e = omega arith
 get_exists (x ∷ xs) (suc k) y e = let l = get_exists xs k y e in omega arith

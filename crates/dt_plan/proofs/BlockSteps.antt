@@ -5,6 +5,7 @@ use Rattle.std.specs.List.{AllByRecursion, flat_map, list_any}
 use Rattle.dt_base.specs.Ranges.{below}
 use Rattle.std.proofs.lemmas.List.{take_more, take_all}
 use Rattle.std.proofs.lemmas.List.Concat.{flat_map-append}
+use Rattle.dt_nest.proofs.Each.{all_get}
 use Rattle.dt_plan.specs.declared.ops.Op.{Op}
 use Rattle.dt_plan.specs.Brackets.{Outline, opened, closed, block, has_some, paths_on, node_ops}
 use Rattle.dt_plan.specs.Keeps.{Keeps}
@@ -72,12 +73,6 @@ one_some t x xs false e = e
 pub some_filter : {X : Type 0} (t : X → Bool) (xs : List X) → has_some (filter t xs) ≡ list_any t xs
 some_filter t [] = refl
 some_filter t (x ∷ xs) = one_some t x xs (t x) (some_filter t xs)
-
--- the fact of one of the elements
-pub all_at : {X : Type 0} (P : X → Type 0) (xs : List X) (k : ℕ) (d : X) → AllByRecursion P xs → k < length xs → P (get_or xs k d)
-all_at P [] k d h l = absurd (omega (arith, l))
-all_at P (x ∷ xs) zero d h l = h.0
-all_at P (x ∷ xs) (suc k) d h l = all_at P xs k d h.1 (omega (arith, l))
 
 -- all paths, where each one that passes a test puts its block behind what was kept
 pub paths_kept : {X : Type 0} (f : X → List Op) (t : X → Bool) (xs : List X) (k : ℕ) (old new : List Op) → length xs ≤ k → Keeps old ([] ++ flat_map (λ x. if t x then f x else []) (take k xs)) new → Keeps old (flat_map f (filter t xs)) new

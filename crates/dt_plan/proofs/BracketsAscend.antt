@@ -6,6 +6,7 @@ use Rattle.std.proofs.lemmas.Bool.{eqb-true}
 use Rattle.std.proofs.lemmas.List.{map-append}
 use Rattle.dt_base.specs.Ranges.{below}
 use Rattle.dt_nest.proofs.Each.{all_map, all_filter, all_append, below_all}
+use Rattle.dt_nest.proofs.PathFans.{flat_flat}
 use Rattle.dt_plan.specs.Listed.{IsIn}
 use Rattle.dt_plan.proofs.Ascending.{all_from_in, in_flat}
 use Rattle.dt_plan.proofs.Stretches.{Rises, Stretch, no_stretch, one_stretch, wider, joined, shorter, row_of, gathered, gathered_map}
@@ -31,15 +32,6 @@ below_rises (suc n) = push (below n) (below_rises n) (below_all n)
     push : (xs : List ℕ) → Rises (λ i. i) xs → AllByRecursion (λ i. i < n) xs → Rises (λ i. i) (xs ++ (n ∷ []))
     push [] r a = (tt, tt)
     push (x ∷ xs) r a = (all_append (λ y. x < y) xs (n ∷ []) r.0 (a.0, tt), push xs r.1 a.1)
-
--- lists made of the elements of lists
-pub flat_flat : {X Y Z : Type 0} (f : Y → List Z) (g : X → List Y) (xs : List X) → flat_map f (flat_map g xs) ≡ flat_map (λ x. flat_map f (g x)) xs
-flat_flat f g [] = refl
-flat_flat {X} {Y} {Z} f g (x ∷ xs) = push (g x) (flat_map g xs) ∙ ap (λ l. flat_map f (g x) ++ l) (flat_flat f g xs)
-  where
-    push : (us vs : List Y) → flat_map f (us ++ vs) ≡ flat_map f us ++ flat_map f vs
-    push [] vs = refl
-    push (u ∷ us) vs = ap (λ l. f u ++ l) (push us vs) ∙ sym (append_assoc (f u) (flat_map f us) (flat_map f vs))
 
 -- lists made of the elements that pass a test
 pub flat_filter : {X Y : Type 0} (f : X → List Y) (p : X → Bool) (xs : List X) → flat_map f (filter p xs) ≡ flat_map (λ x. if p x then f x else []) xs

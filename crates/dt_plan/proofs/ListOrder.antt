@@ -24,6 +24,7 @@ use Rattle.dt_plan.proofs.Listing.{job_ascends, job_in_brackets, job_in_named, j
 use Rattle.dt_plan.proofs.Meeting.{node_at}
 use Rattle.dt_plan.proofs.OutlineFacts.{are_outlines, outlines_rise}
 use Rattle.dt_plan.proofs.KeyOrder.{Fork, paths_fork, key_orders}
+use Rattle.dt_plan.proofs.OperationUnits.{any}
 
 -- a path of some length, with values below 2^32
 abbrev IsPathOf : ℕ → List ℕ → Type 0
@@ -32,10 +33,6 @@ IsPathOf k q = AllByRecursion (λ i. i < 4294967296) q × (length q ≡ k)
 -- an operation of statement k whose tasks have d loops: its path's values are below 2^32, and no path is longer than a task's
 abbrev FitsStmt : ℕ → ℕ → Op → Type 0
 FitsStmt k d o = (o.stmt ≡ k) × AllByRecursion (λ i. i < 4294967296) o.path × (length o.path ≤ d) × (path_end o.kind ≡ 1 → length o.path ≡ d)
-
-any : {X : Type 0} (xs : List X) → AllByRecursion (λ x. Unit {0}) xs
-any [] = tt
-any (x ∷ xs) = (tt, any xs)
 
 module _ (l : Layout) (k : ℕ) (p : Part) (h : IsOutline key_of node_at (outline_of l k p)) where
   abbrev M : Outline Op Piece

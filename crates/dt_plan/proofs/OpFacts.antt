@@ -12,6 +12,7 @@ use Rattle.dt_nest.specs.PathSteps.{IsVisited}
 use Rattle.dt_nest.proofs.Each.{all_append, all_filter, all_get, all_made, all_flat, below_all}
 use Rattle.dt_nest.proofs.PathDepths.{task_loops}
 use Rattle.dt_nest.proofs.PathFans.{paths_are_visited}
+use Rattle.dt_nest.proofs.Schedulable.{get_exists}
 use Rattle.dt_copy.specs.declared.piece_list.Piece.{Piece}
 use Rattle.dt_copy.specs.Sources.{home_at, piece_of}
 use Rattle.dt_place.specs.Machines.{nodes_of}
@@ -119,12 +120,6 @@ module _ (l : Layout) (h : HasHomes l) (k : ℕ) (p : Part) (here : slice_get l.
       works : List Op
       works = flat_map (works_of M) M.works
 
--- a number that has an element is one of a place
-some_below : {X : Type 0} (xs : List X) (k : ℕ) (x : X) → slice_get xs k ≡ Some x → k < length xs
-some_below [] k x e = absurd (cc)
-some_below (y ∷ ys) zero x e = omega arith
-some_below (y ∷ ys) (suc k) x e = let r = some_below ys k x e in omega (arith, r)
-
 -- what holds of each element holds of the one at a number
 some_holds : {X : Type 0} (P : X → Type 0) (xs : List X) (k : ℕ) (x : X) → AllByRecursion P xs → slice_get xs k ≡ Some x → P x
 some_holds P [] k x h e = absurd (cc)
@@ -139,7 +134,7 @@ module _ (l : Layout) (h : HasHomes l) (f : FitsLayout l) where
   all_are =
       all_flat (λ (m : Outline Op Piece). AllByRecursion (IsOpOf l) (named_ops m)) (IsOpOf l) named_ops (λ m a. a) (outlines_of l)
       (all_made (λ (x : ℕ × Part). slice_get l.parts x.0 ≡ Some x.1) (λ (m : Outline Op Piece). AllByRecursion (IsOpOf l) (named_ops m)) (λ (x : ℕ × Part). outline_of l x.0 x.1)
-      (λ x e. named_are l h x.0 x.1 e (some_below l.parts x.0 x.1 e) (some_holds (FitsPart l) l.parts x.0 x.1 f.parts e))
+      (λ x e. named_are l h x.0 x.1 e (get_exists l.parts x.0 x.1 e) (some_holds (FitsPart l) l.parts x.0 x.1 f.parts e))
       (zip (below (length l.parts)) l.parts) (parts_numbered l))
 
 -- Each operation of the list is one of the layout.
