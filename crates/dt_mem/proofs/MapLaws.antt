@@ -17,8 +17,14 @@ same-changed f [] b = refl
 same-changed f (s ∷ m) zero = refl
 same-changed f (s ∷ m) (suc b) = same-changed f m b
 
+-- as many buffers as before
+pub length-changed : (f : Slot → Slot) (m : List Slot) (b : ℕ) → length (changed f b m) ≡ length m
+length-changed f [] b = refl
+length-changed f (s ∷ m) zero = refl
+length-changed f (s ∷ m) (suc b) = ap suc (length-changed f m b)
+
 -- the other buffers
-other-changed : (f : Slot → Slot) (m : List Slot) (b c : ℕ) → c ≢ b → slice_get (changed f b m) c ≡ slice_get m c
+pub other-changed : (f : Slot → Slot) (m : List Slot) (b c : ℕ) → c ≢ b → slice_get (changed f b m) c ≡ slice_get m c
 other-changed f [] b c h = refl
 other-changed f (s ∷ m) zero zero h = absurd (h refl)
 other-changed f (s ∷ m) zero (suc c) h = refl
