@@ -5,20 +5,12 @@ use Rattle.std.proofs.Math.Path.{fun_ext}
 use Rattle.std.proofs.Math.Nat.{add-mod-mod}
 use Rattle.std.proofs.lemmas.Bool.{cases_eq, eq-eqb, eqb-true, ne_eqb}
 use Rattle.dt_mem.specs.Memory.{Held, Slot, changed, folded, held_at, value_at, value_in, words_at, written}
-use Rattle.dt_mem.proofs.MapLaws.{folds_one_word}
+use Rattle.dt_mem.proofs.MapLaws.{folds_one_word, other-changed}
 use Rattle.dt_nest.specs.Run.{is_among}
 use Rattle.dt_nest.specs.Unit.{Cell, Word, Sign, grown_at}
 use Rattle.dt_leaf.specs.NodeWords.{AreApart, LeavesRest, cells_in, frame_of, layout_of}
 
 -- Buffers --------------------------------------------------------------------------------------------------------------
-
--- the buffers that are not changed
-pub other_changed : (f : Slot → Slot) (m : List Slot) (b c : ℕ) → c ≢ b → slice_get (changed f b m) c ≡ slice_get m c
-other_changed f [] b c h = refl
-other_changed f (s ∷ m) zero zero h = absurd (h refl)
-other_changed f (s ∷ m) zero (suc c) h = refl
-other_changed f (s ∷ m) (suc b) zero h = refl
-other_changed f (s ∷ m) (suc b) (suc c) h = other_changed f m b c (λ e. h (ap suc e))
 
 -- a change that leaves the frame of each buffer
 pub layout_changed : (f : Slot → Slot) → ((s : Slot) → frame_of (f s) ≡ frame_of s) → (m : List Slot) (b : ℕ) → layout_of (changed f b m) ≡ layout_of m
@@ -94,7 +86,7 @@ slot_item (x ∷ slots) (suc t) d f e = (let h = slot_item slots t d f e in let 
 pub rest_after : (f : Slot → Slot) → ((s : Slot) → frame_of (f s) ≡ frame_of s) → (m : List Slot) (slots : List ℕ) (t b : ℕ) → slice_get slots t ≡ Some b → LeavesRest slots m (changed f b m)
 rest_after f h m slots t b e = record {
   layout = layout_changed f h m b;
-  others = λ c n. other_changed f m b c (λ q. (let z : is_among c slots ≡ true = subst (λ (y : ℕ). is_among y slots ≡ true) (sym q) (among_slots slots t b e) in cc));
+  others = λ c n. other-changed f m b c (λ q. (let z : is_among c slots ≡ true = subst (λ (y : ℕ). is_among y slots ≡ true) (sym q) (among_slots slots t b e) in cc));
 }
 
 pub rest_kept : (slots : List ℕ) (m : List Slot) → LeavesRest slots m m

@@ -7,12 +7,12 @@ use Rattle.std.proofs.lemmas.List.{take_more}
 use Rattle.std.proofs.lemmas.List.Quantifiers.{position-Some}
 use Rattle.std.proofs.lemmas.Option.{slice_get-get_or}
 use Rattle.dt_mem.specs.Memory.{Held, Slot, changed, held_at, place_of, value_at, value_in, written}
-use Rattle.dt_mem.proofs.MapLaws.{writes_one_word}
+use Rattle.dt_mem.proofs.MapLaws.{other-changed, writes_one_word}
 use Rattle.dt_nest.specs.Run.{is_among}
 use Rattle.dt_nest.specs.Unit.{Cell, Word, Sign, cleared_at}
 use Rattle.dt_leaf.specs.NodeWords.{AreApart, LeavesRest, cells_in, layout_of}
 use Rattle.dt_leaf.specs.Clearing.{Clears, buffer_words}
-use Rattle.dt_leaf.proofs.Cells.{among_slots, layout_changed, other_changed, same_signs, same_words, written_frame}
+use Rattle.dt_leaf.proofs.Cells.{among_slots, layout_changed, same_signs, same_words, written_frame}
 
 -- each number becomes 0
 abbrev pub zeroed : Option ℕ → Option ℕ
@@ -51,7 +51,7 @@ module _ (m : List Slot) (buf w : ℕ) where
   held_clears (Some x) e h = record {
     values = λ b j. writes_one_word m buf w x 0 e b j ∙ one_cleared x b j e (nat_eq b buf) (nat_eq j w) refl refl;
     layout = layout_changed (written w 0) (written_frame w 0) m buf;
-    others = λ b n. other_changed (written w 0) m buf b n;
+    others = λ b n. other-changed (written w 0) m buf b n;
   }
 
   free_clears : (o : Option ℕ) → value_at m buf w ≡ o → is_some o ≡ false → Clears buf (w ∷ []) m m

@@ -1,7 +1,8 @@
 -- What a visit reads is held, and which word it writes.
-use Rattle.std.proofs.Common.{◌≡◌, ℕ, ◌%◌, ◌^◌, ◌&&◌, Bool, true, false, List, [], ◌∷◌, length, map, Option, None, refl, sym, ap, ◌∙◌, subst}
+use Rattle.std.proofs.Common.{◌≡◌, ℕ, ◌%◌, ◌^◌, Bool, true, List, [], ◌∷◌, length, map, Option, None, sym, ap, ◌∙◌, subst}
 use Rattle.std.specs.List.{AllByRecursion, list_all}
 use Rattle.dt_model.specs.Positions.{StoredTensor}
+use Rattle.dt_model.proofs.ShapeFacts.{both}
 use Rattle.dt_model.specs.declared.stmt.Access.{Access}
 use Rattle.dt_model.specs.declared.stmt.Term.{Term}
 use Rattle.dt_nest.specs.Tree.{read_accesses}
@@ -15,17 +16,9 @@ use Rattle.dt_nest.specs.Unit.{State, added_by, are_held, can_do, entries_in, gr
 use Rattle.dt_leaf.specs.AtVisit.{AreReadable}
 use Rattle.dt_leaf.specs.NodeWords.{GoesOver, readable_in}
 
-both_left : (a b : Bool) → (a && b) ≡ true → a ≡ true
-both_left true b e = refl
-both_left false b e = e
-
-both_right : (a b : Bool) → (a && b) ≡ true → b ≡ true
-both_right true b e = e
-both_right false b e = absurd (cc)
-
 each_true : {X : Type 0} (p : X → Bool) (xs : List X) → list_all p xs ≡ true → AllByRecursion (λ x. p x ≡ true) xs
 each_true p [] e = tt
-each_true p (x ∷ xs) e = (both_left (p x) (list_all p xs) e, each_true p xs (both_right (p x) (list_all p xs) e))
+each_true p (x ∷ xs) e = ((both (p x) (list_all p xs) e).0, each_true p xs (both (p x) (list_all p xs) e).1)
 
 map_all : {X : Type 0} (P Q : X → Type 0) → ((x : X) → P x → Q x) → (xs : List X) → AllByRecursion P xs → AllByRecursion Q xs
 map_all P Q f [] h = tt
@@ -44,7 +37,7 @@ module _ (stored : List StoredTensor) (s : Schedule) (state : State) (r : Run) (
       (each_true (λ (a : Access). is_held state a.tensor (word_of stored s a.tensor (map val a.vars))) (read_accesses (visit_of r).leaf.terms) h))
       (environments (world_of stored s) s.derived (visit_of r))
       (each_true (λ val. are_held stored s state val (read_accesses (visit_of r).leaf.terms)) (environments (world_of stored s) s.derived (visit_of r))
-      (both_right (is_held state (visit_of r).leaf.lhs.tensor (written_by stored s (visit_of r))) (list_all (λ val. are_held stored s state val (read_accesses (visit_of r).leaf.terms)) (environments (world_of stored s) s.derived (visit_of r))) can))
+      (both (is_held state (visit_of r).leaf.lhs.tensor (written_by stored s (visit_of r))) (list_all (λ val. are_held stored s state val (read_accesses (visit_of r).leaf.terms)) (environments (world_of stored s) s.derived (visit_of r))) can).1)
 
   -- each word that a visit reads is held
   pub reads_there : (terms : List Term) → terms ≡ (visit_of r).leaf.terms → can_do stored s (IsVisit (visit_of r)) state ≡ true
@@ -66,7 +59,7 @@ module _ (stored : List StoredTensor) (s : Schedule) (state : State) (r : Run) (
   pub writes_held : (lhs : Access) (w : Option ℕ) → lhs ≡ (visit_of r).leaf.lhs → w ≡ written_by stored s (visit_of r) → can_do stored s (IsVisit (visit_of r)) state ≡ true → is_held state lhs.tensor w ≡ true
   unfolding can_do
   writes_held lhs w l q can =
-      rw (l, q) (both_left (is_held state (visit_of r).leaf.lhs.tensor (written_by stored s (visit_of r))) (list_all (λ val. are_held stored s state val (read_accesses (visit_of r).leaf.terms)) (environments (world_of stored s) s.derived (visit_of r))) can)
+      rw (l, q) (both (is_held state (visit_of r).leaf.lhs.tensor (written_by stored s (visit_of r))) (list_all (λ val. are_held stored s state val (read_accesses (visit_of r).leaf.terms)) (environments (world_of stored s) s.derived (visit_of r))) can).0
 
   -- the number is what the visit adds
   pub adds_number : (n : ℕ) → n ≡ visit_sum (world_of r.stored r.sched) r.sched.derived (entries_in stored s state) (visit_of r) % 2 ^ 64 → n ≡ added_by stored s state (visit_of r) % 2 ^ 64
