@@ -1,3 +1,2 @@
-pub mod MemoryLengths
 pub mod NodeSteps
 pub mod Slots

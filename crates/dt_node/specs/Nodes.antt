@@ -15,10 +15,14 @@ use Rattle.dt_leaf.specs.NodeWords.{GoesOver, IsShortItem}
 abbrev pub AreThere : List ℕ → List Slot → Type 0
 AreThere slots mem = (t b : ℕ) → slice_get slots t ≡ Some b → b < length mem
 
--- A node has each word of the tensors and workspaces of a schedule.
+-- a node has each word below a number of a tensor or workspace
+abbrev pub HoldsBelow : State → ℕ → ℕ → Type 0
+HoldsBelow state t count = (w : ℕ) → w < count → is_some (state (Word t w)) ≡ true
+
+-- A node has each word of the tensors and workspaces of a schedule, and the buffer of each workspace.
 pub record HoldsAll (stored : List StoredTensor) (s : Schedule) (state : State) : Type 0 where
-  pub words : (t w : ℕ) → t < length s.tensors → w < length (tensor_at stored t).coords → is_some (state (Word t w)) ≡ true
-  pub works : (u k : ℕ) (x : Work) → slice_get s.works u ≡ Some x → k < product x.extents → is_some (state (Word (length s.tensors + u) k)) ≡ true
+  pub words : (t : ℕ) → t < length s.tensors → HoldsBelow state t (length (tensor_at stored t).coords)
+  pub works : (u : ℕ) (x : Work) → slice_get s.works u ≡ Some x → HoldsBelow state (length s.tensors + u) (product x.extents)
   pub signs : (u : ℕ) → u < length s.works → is_some (state (Sign (length s.tensors + u))) ≡ true
 
 -- A run over the visits of a schedule, each of which can be done where the ones before it have been.

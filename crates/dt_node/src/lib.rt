@@ -6,4 +6,4 @@ mod holding;
 mod node_runs;
 
 pub use holding::holds_all;
-pub use node_runs::{run_next, run_on_node};
+pub use node_runs::{run_next, run_on_node, visits_on_node};

@@ -3,7 +3,8 @@ use Rattle.dt_nest.specs.Run.{Run}
 use Rattle.dt_nest.specs.Visits.{Item}
 use Rattle.dt_bounds.specs.TaskUnits.{units_after}
 use Rattle.dt_leaf.specs.NodeWords.{cells_in}
-use Rattle.dt_node.proofs.NodeSteps.{rest_more, rest_same, starts}
+use Rattle.dt_leaf.proofs.Cells.{rest_kept}
+use Rattle.dt_node.proofs.NodeSteps.{rest_more, starts}
 use Rattle.dt_node.proofs.node_runs.run_on_node.Goals as goal
 
 pub visits-init : goal.visits-init
@@ -11,7 +12,7 @@ visits-init g c = record {
   ready =
       starts (g.L.Locator.tensors c.args.loc.now) c.args.sched.now (cells_in c.args.mem.now c.args.slots.now) c.in_ok-visits.visits c.in_ok-visits.ensures c.requires.fits.count c.parts-parts.ensures.lawful c.requires.held c.tasks_are_defined.ensures c.items_are_short.ensures;
   after = ap (λ (r : Run). units_after (g.L.Locator.tensors c.args.loc.now) c.args.sched.now r.left (cells_in c.args.mem.now c.args.slots.now)) c.in_ok-visits.ensures;
-  rest = rest_same c.args.slots.now c.args.mem.now;
+  rest = rest_kept c.args.slots.now c.args.mem.now;
   room = ap length c.as_mut_slice-values.ensures.value ∙ c.in_ok-room.ensures ∙ ap (λ (r : Run). length r.sched.names) c.in_ok-visits.ensures;
 }
 
