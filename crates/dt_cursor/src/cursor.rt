@@ -10,6 +10,7 @@ use dt_tracker::Tracker;
 use std::marker::Model;
 
 /// Goes through an order. It takes no memory.
+#[derive(Drop)]
 pub struct Cursor<'o> {
     order: &'o Order,
     spot: Spot,

@@ -5,6 +5,8 @@
 #[cfg(test)]
 mod cause_texts;
 #[cfg(test)]
+mod cursors;
+#[cfg(test)]
 mod fixtures;
 #[cfg(test)]
 mod grid_lines;
