@@ -2,6 +2,10 @@
 #![tactic(auto)]
 
 #[cfg(test)]
+mod item_texts;
+#[cfg(test)]
 mod row_schedules;
+#[cfg(test)]
+mod row_tensors;
 #[cfg(test)]
 mod row_tests;
