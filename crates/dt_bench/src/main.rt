@@ -8,6 +8,7 @@ mod case_end;
 mod files;
 mod homes;
 mod jobs;
+mod leaves;
 mod levels;
 mod memories;
 mod needs;
@@ -17,8 +18,9 @@ use case::{Case, answer};
 use case_end::CaseEnd;
 use files::{FileCall, files};
 use homes::homes;
+use leaves::{NodeStep, node};
 use levels::{levels, levels_case};
-use memories::{MemoryCall, memory};
+use memories::{BufferCall, MemoryCall, buffer, memory};
 use needs::needs;
 use std::alloc::Global;
 use std::process::ExitCode;
@@ -66,11 +68,14 @@ fn run(alloc: Global, word: &str, size: u32) -> Result<u32, CaseEnd> {
         }
         return walked(alloc, walk, size);
     }
-    if let Some((call, spread)) = MemoryCall::from_word(word) {
-        if size > memories::MOST_WORDS {
+    if let Some(step) = NodeStep::from_word(word) {
+        if size > leaves::LARGEST_EXTENT {
             return Err(CaseEnd::Refused);
         }
-        return memory(alloc, call, spread, size);
+        return node(alloc, step, size);
+    }
+    if let Some(end) = memory_case(alloc, word, size) {
+        return end;
     }
     if let Some(end) = stored_case(alloc, word, size) {
         return end;
@@ -84,6 +89,18 @@ fn run(alloc: Global, word: &str, size: u32) -> Result<u32, CaseEnd> {
             Ok(answer(alloc, case, size)?)
         }
     }
+}
+
+/// The answer where the word is a case of a node's memory.
+fn memory_case(alloc: Global, word: &str, size: u32) -> Option<Result<u32, CaseEnd>> {
+    if size > memories::MOST_WORDS {
+        return None;
+    }
+    if let Some((call, spread)) = BufferCall::from_word(word) {
+        return Some(buffer(alloc, call, spread, size));
+    }
+    let (call, spread) = MemoryCall::from_word(word)?;
+    Some(memory(alloc, call, spread, size))
 }
 
 /// The answer where the word is a case of levels or of files.

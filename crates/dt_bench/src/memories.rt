@@ -48,6 +48,58 @@ impl MemoryCall {
     }
 }
 
+/// What becomes of the buffer as a whole.
+#[derive(Clone, Copy)]
+pub enum BufferCall {
+    /// It is absent.
+    Absent,
+    /// It begins.
+    Begin,
+    /// It begins and ends.
+    End,
+}
+
+impl BufferCall {
+    /// The call and the spread of a case, as `begin-one`.
+    pub(crate) fn from_word(word: &str) -> Option<(BufferCall, Spread)> {
+        match word {
+            "absent-one" => Some((BufferCall::Absent, Spread::One)),
+            "begin-one" => Some((BufferCall::Begin, Spread::One)),
+            "end-one" => Some((BufferCall::End, Spread::One)),
+            "absent-many" => Some((BufferCall::Absent, Spread::Many)),
+            "begin-many" => Some((BufferCall::Begin, Spread::Many)),
+            "end-many" => Some((BufferCall::End, Spread::Many)),
+            _ => None,
+        }
+    }
+}
+
+/// Makes a memory of one buffer with so many words, and does the call with the buffer.
+pub(crate) fn buffer(
+    alloc: Global,
+    call: BufferCall,
+    spread: Spread,
+    size: u32,
+) -> Result<u32, CaseEnd>
+    requires { size ≤ MOST_WORDS }
+{
+    let words = words_of(alloc, spread, size)?;
+    let specs = [BufSpec {
+        words: words.count(),
+        cost: 1,
+    }];
+    let mut mem = NodeMem::new(alloc, &specs)?;
+    match call {
+        BufferCall::Absent => {}
+        BufferCall::Begin => mem.begin(0, &words),
+        BufferCall::End => {
+            mem.begin(0, &words);
+            mem.end(0);
+        }
+    }
+    Ok((mem.live().wrapping_add(mem.sum()) % 1_000_000_007) as u32)
+}
+
 /// Does the call with each word of a buffer of so many words, and mixes what was read.
 pub(crate) fn memory(
     alloc: Global,
