@@ -72,11 +72,11 @@ all_unmade P f (x ∷ xs) h = (h.0, all_unmade P f xs h.1)
 -- Statements -----------------------------------------------------------------------------------------------------------------
 
 -- what holds of a part with its number
-record IsDone (l : Layout) (y : ℕ × Part) : Type 0 where
-  here : slice_get l.parts y.0 ≡ Some y.1
-  outline : IsOutline key_of node_at (outline_of l y.0 y.1)
-  fit : IsRunnable l y.1
-  can : CanRun l y.1
+pub record IsDone (l : Layout) (y : ℕ × Part) : Type 0 where
+  pub here : slice_get l.parts y.0 ≡ Some y.1
+  pub outline : IsOutline key_of node_at (outline_of l y.0 y.1)
+  pub fit : IsRunnable l y.1
+  pub can : CanRun l y.1
 
 -- statements run one after another
 parts_run : (l : Layout) → IsPlaced l → (ys : List (ℕ × Part)) → AllByRecursion (IsDone l) ys → (x : Entries) → AreNumbers l x
@@ -93,7 +93,8 @@ module _ (l : Layout) (ready : IsReady l) (x : Entries) (numbers : AreNumbers l 
   abbrev ys : List (ℕ × Part)
   ys = zip (below (length l.parts)) l.parts
 
-  parts_done : AllByRecursion (IsDone l) ys
+  -- each of them can be done
+  pub parts_done : AllByRecursion (IsDone l) ys
   parts_done =
       all_both (λ (y : ℕ × Part). (slice_get l.parts y.0 ≡ Some y.1) × IsOutline key_of node_at (outline_of l y.0 y.1)) (λ (y : ℕ × Part). IsRunnable l y.1 × CanRun l y.1) (IsDone l)
       (λ y a b. record { here = a.0; outline = a.1; fit = b.0; can = b.1 }) ys

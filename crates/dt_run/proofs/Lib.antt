@@ -1,6 +1,9 @@
 pub mod CutRows
 pub mod EndTensors
+pub mod EveryOrder
+pub mod FinalNumbers
 pub mod GivenTensors
+pub mod JobReady
 pub mod LeafReads
 pub mod OverStored
 pub mod PartRuns

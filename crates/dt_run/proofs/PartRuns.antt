@@ -21,11 +21,11 @@ use Rattle.dt_run.proofs.OverStored.{fits_over, set_over, stored_extents}
 -- Statements -------------------------------------------------------------------------------------------------------------
 
 -- a tensor with dense levels alone stores each index
-stores_all : (t : StoredTensor) → t ≡ dense_levels t.extents → (c : List ℕ) → place_in t c ≡ None → row_major t.extents c ≡ None
+pub stores_all : (t : StoredTensor) → t ≡ dense_levels t.extents → (c : List ℕ) → place_in t c ≡ None → row_major t.extents c ≡ None
 stores_all t e c p = sym (position-assignments t.extents c) ∙ sym (ap (λ (u : StoredTensor). place_in u c) e) ∙ p
 
 -- after a statement whose left tensor has dense levels alone, the tensors are over the stored ones
-after_over : (stored : List StoredTensor) (ts : List WholeTensor) (s : Stmt) → tensor_at stored s.lhs.tensor ≡ dense_levels (tensor_at stored s.lhs.tensor).extents → AreOver stored ts → AreOver stored (tensors_after s ts)
+pub after_over : (stored : List StoredTensor) (ts : List WholeTensor) (s : Stmt) → tensor_at stored s.lhs.tensor ≡ dense_levels (tensor_at stored s.lhs.tensor).extents → AreOver stored ts → AreOver stored (tensors_after s ts)
 after_over stored ts s dense o = go (slice_get ts s.lhs.tensor) refl
   where
     no_number : (x : WholeTensor) (c : List ℕ) → row_major x.extents c ≡ None → ◌≡◌ {A = ℕ} (unwrap_or (number_at x c) 0) 0

@@ -1,5 +1,5 @@
 -- What a plan's end, or its events, say of the first limit that a job passes, and what a job gives for its plan's text.
-use Rattle.std.proofs.Common.{◌≡◌, ℕ, ◌<◌, ◌≤◌, Bool, true, false, List, [], ◌∷◌, length, arith, map, nat_lt, Option, Some, None, Result, Ok, Err, refl, sym, ap, subst, ◌∙◌, if◌then◌else◌}
+use Rattle.std.proofs.Common.{◌≡◌, ℕ, ◌<◌, ◌≤◌, Bool, true, false, List, [], ◌∷◌, length, arith, map, nat_lt, Option, Some, None, Result, Ok, Err, IfOk, refl, sym, ap, subst, ◌∙◌, if◌then◌else◌}
 use Rattle.std.proofs.lemmas.Bool.{lt-ltb, le-ltb}
 use Rattle.dt_model.specs.Positions.{StoredTensor}
 use Rattle.dt_model.specs.declared.stmt.Stmt.{Stmt}
@@ -11,13 +11,17 @@ use Rattle.dt_plan.specs.declared.parts.Part.{Part}
 use Rattle.dt_plan.specs.declared.plan_end.PlanEnd.{PlanEnd}
 use Rattle.dt_plan.specs.declared.plan_end.PlanEnd.TheVariants as ends
 use Rattle.dt_events.specs.Events.{event_limit, events_of}
+use Rattle.dt_report.specs.PlanText.{plan_text_of}
 use Rattle.dt_tensor.specs.Packed.{stored_of}
 use Rattle.dt_job.specs.Jobs.{IsJob}
 use Rattle.dt_job.specs.PartsOf.{ArePartsOf}
 use Rattle.dt_job.specs.declared.job.Job.{Job}
 use Rattle.dt_refusal.specs.declared.plan_cause.PlanCause.{PlanCause}
 use Rattle.dt_refusal.specs.declared.plan_cause.PlanCause.TheVariants as plan_cause
-use Rattle.dt_run.specs.Planning.{limit_at, limit_of}
+use Rattle.dt_run.specs.declared.form.Form.{Form}
+use Rattle.dt_run.specs.declared.form.Form.TheVariants as form
+use Rattle.dt_run.specs.Outcome.{form_text}
+use Rattle.dt_run.specs.Planning.{job_layout, job_plan_text, limit_at, limit_of, text_under}
 
 -- a plan by the tests of its four limits
 abbrev chain : Bool → Bool → Bool → Bool → PlanView → Result PlanView PlanEnd
@@ -59,6 +63,10 @@ made false false true u e p q h = cc
 made false false false true e p q h = cc
 made false false false false e p q h = (cc, refl)
 
+unpassed : (v w o u e : Bool) → limits v w o u e ≡ None → v ≡ false
+unpassed true w o u e h = cc
+unpassed false w o u e h = refl
+
 module _ (l : Layout) where
   abbrev visits : Bool
   visits = has_too_many_visits l.parts
@@ -82,6 +90,10 @@ module _ (l : Layout) where
   limit_is : limit_of l ≡ limits visits words ops units events
   unfolding limit_of
   limit_is = refl
+
+  -- where it passes no limit it has no more visits than a plan may have
+  pub within_visits : limit_of l ≡ None → has_too_many_visits l.parts ≡ false
+  within_visits h = unpassed visits words ops units events (sym limit_is ∙ h)
 
   -- the limit that ended a plan is the first that is passed
   pub ended_at : (end : PlanEnd) (c : PlanCause) → Fails end (plan_of l) → limit_at end ≡ Some c → limit_of l ≡ Some c
@@ -114,3 +126,17 @@ parts_count dims stored names (s ∷ ss) (q ∷ qs) h = omega (arith, parts_coun
 -- and a text for each part
 pub job_headed : (j : Job) → ((stmts : List Stmt) × IsJob stmts j) → length j.heads ≡ length j.parts
 job_headed j (stmts, h) = h.headed ∙ parts_count (dims_of j.machine) (map stored_of j.tensors) j.names stmts j.parts h.parts
+
+-- a plan's text under the statements of its job is what is printed of the job's plan
+pub text_by : {E : Type 0} (j : Job) (plan : PlanView) (events : List (ℕ × ℕ)) (parts : List Part) (r : Result (List ℕ) E) → plan ≡ plan_view (job_layout j) → events ≡ events_of plan → parts ≡ j.parts
+    → IfOk r (λ t. t ≡ plan_text_of plan events parts j.heads) → IfOk r (λ t. t ≡ job_plan_text j)
+text_by j plan events parts (Err e) p q s h = tt
+text_by j plan events parts (Ok t) p q s h =
+    h ∙ ap (λ (ps : List Part). plan_text_of plan events ps j.heads) s
+    ∙ ap (λ (es : List (ℕ × ℕ)). plan_text_of plan es j.parts j.heads) q
+    ∙ ap (λ (v : PlanView). text_under j v) p
+
+-- it is so under the statements of a job, whichever they are, for the form that prints plans
+pub for_stmts : {E : Type 0} (j : Job) (f : Form) (r : Result (List ℕ) E) → f ≡ form.Plan → IfOk r (λ t. t ≡ job_plan_text j) → IfOk r (λ t. (stmts : List Stmt) → IsJob stmts j → t ≡ form_text f (record { job = j; stmts = stmts }))
+for_stmts j f (Err e) p h = tt
+for_stmts j f (Ok t) p h = λ stmts is. h ∙ ap (λ (g : Form). form_text g (record { job = j; stmts = stmts })) (sym p)

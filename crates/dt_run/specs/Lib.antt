@@ -1,7 +1,8 @@
 pub mod Clauses
+pub mod EveryOrder
 pub mod Forms
-pub mod Limits
 pub mod Outcome
+pub mod Planned
 pub mod Planning
 pub mod Running
 pub mod TensorText

@@ -12,7 +12,6 @@ use Rattle.dt_job.specs.declared.outputs.Show.{Show}
 use Rattle.dt_job.specs.declared.outputs.Show.TheVariants as show
 use Rattle.dt_job.specs.Read.{StatedJob, job_of}
 use Rattle.dt_run.specs.Forms.{form_of}
-use Rattle.dt_run.specs.Limits.{plan_cause_of}
 use Rattle.dt_run.specs.Planning.{job_layout, job_plan_text, limit_of}
 use Rattle.dt_refusal.specs.Refusals.{line_end, refused_line_text, refused_plan_text, too_long_text}
 use Rattle.dt_run.specs.TensorText.{tensor_text}
@@ -68,19 +67,14 @@ abbrev pub form_text : Form → StatedJob → List ℕ
 form_text form.Run s = run_text s
 form_text form.Plan s = job_plan_text s.job
 
--- the limit that a job passes, of those that a form looks at: a run makes no plan yet, so it looks at visits alone
-abbrev pub limit_by : Form → Job → Option PlanCause
-limit_by form.Run j = plan_cause_of j.parts
-limit_by form.Plan j = limit_of (job_layout j)
-
--- a plan that has a cause is refused; else the text is written
+-- a plan that passes a limit is refused; else the text is written
 abbrev pub planned : Option PlanCause → List ℕ → Outcome
 planned (Some c) text = refused_with (refused_plan_text c)
 planned None text = record { status = status.Done; text = text }
 
--- what a form answers to a job
+-- what a form answers to a job: each of them plans it first
 abbrev pub outcome_of_job : Form → StatedJob → Outcome
-outcome_of_job f s = planned (limit_by f s.job) (form_text f s)
+outcome_of_job f s = planned (limit_of (job_layout s.job)) (form_text f s)
 
 -- a line that has a cause is refused
 abbrev pub outcome_of_read : Form → Result StatedJob (ℕ × Cause) → Outcome

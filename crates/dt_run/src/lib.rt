@@ -2,9 +2,10 @@
 //! by the clauses of `distal`.
 #![tactic(auto)]
 
+mod accepting;
 mod answering;
 mod form;
-mod limits;
+mod laws;
 mod planning;
 mod running;
 mod status;
@@ -13,6 +14,7 @@ mod top;
 mod visiting;
 mod whole_numbers;
 
+pub use laws::all_orders_agree;
 pub use status::Status;
 pub use top::distal;
 

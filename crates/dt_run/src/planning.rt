@@ -1,21 +1,28 @@
-//! The answer that prints a job's plan.
+//! A job's plan and its events, or the first limit that they pass.
 
-ghost use Rattle.std.specs.Prelude.{◌≡◌, IfOk, List, Ok, length};
+ghost use Rattle.std.specs.Prelude.{◌≡◌, IfOk, List, Ok};
 ghost use Rattle.dt_model.specs.declared.stmt.Stmt.{Stmt};
+ghost use Rattle.dt_plan.specs.Layouts.{Layout};
 ghost use Rattle.dt_plan.specs.Limits.{plan_of as plan_in};
 ghost use Rattle.dt_job.specs.Jobs.{IsJob};
-ghost use Rattle.dt_run.specs.Clauses.{outcome_in};
-ghost use Rattle.dt_run.specs.Outcome.{planned};
-ghost use Rattle.dt_run.specs.Planning.{job_layout, job_plan_text, limit_at, limit_of};
+ghost use Rattle.dt_run.specs.Planned.{IsPlanned};
+ghost use Rattle.dt_run.specs.Planning.{job_layout, limit_at};
 
-use crate::answering::Answer;
 use dt_base::NoMemory;
-use dt_events::{EventsEnd, events_of};
+use dt_events::{Events, EventsEnd, events_of};
 use dt_job::Job;
 use dt_plan::{Plan, PlanEnd, plan_of};
-use dt_refusal::{PlanCause, refused_plan};
-use dt_report::plan_text;
+use dt_refusal::PlanCause;
 use std::alloc::Global;
+
+/// What comes of planning a job.
+#[derive(Drop)]
+pub enum Planned {
+    /// Its plan, and the events of the plan.
+    Made(Plan, Events),
+    /// The first limit that they pass.
+    Passes(PlanCause),
+}
 
 /// The limit that ended a plan, and none where memory ran out.
 fn limit_at(end: PlanEnd) -> Option<PlanCause>
@@ -30,28 +37,21 @@ fn limit_at(end: PlanEnd) -> Option<PlanCause>
     }
 }
 
-/// What is printed of the job's plan, unless it has too many events.
-fn answer_by_events(alloc: Global, job: &Job, plan: &Plan) -> Result<Answer, NoMemory>
-    requires heads { length job.now.heads ≡ length job.now.parts }
-    requires plan { plan_in (job_layout job.now) ≡ Ok plan.now }
-    ensures { IfOk result (λ a. outcome_in a ≡ planned (limit_of (job_layout job.now)) (job_plan_text job.now)) }
+/// The plan with its events, unless it has too many.
+fn with_events(alloc: Global, plan: Plan) -> Result<Planned, NoMemory>
+    ensures { IfOk result (λ p. (l : Layout) → plan_in l ≡ Ok plan → IsPlanned l p) }
 {
-    match events_of(alloc, plan) {
-        Ok(events) => {
-            let text = plan_text(alloc, plan, &events, job.parts.as_slice(), &job.heads)?;
-            Ok(Answer::Text(text))
-        }
-        Err(EventsEnd::TooManyEvents) => {
-            Ok(Answer::Refusal(refused_plan(&PlanCause::TooManyEvents)))
-        }
+    match events_of(alloc, &plan) {
+        Ok(events) => Ok(Planned::Made(plan, events)),
+        Err(EventsEnd::TooManyEvents) => Ok(Planned::Passes(PlanCause::TooManyEvents)),
         Err(EventsEnd::NoMemory) => Err(NoMemory),
     }
 }
 
-/// What is printed of the job's plan, or the refusal with the first limit that it passes.
-pub fn answer_by_plan(alloc: Global, job: &Job) -> Result<Answer, NoMemory>
+/// The job's plan and its events, or the first limit that they pass.
+pub fn plan_job(alloc: Global, job: &Job) -> Result<Planned, NoMemory>
     requires { (stmts : List Stmt) × IsJob stmts job.now }
-    ensures { IfOk result (λ a. outcome_in a ≡ planned (limit_of (job_layout job.now)) (job_plan_text job.now)) }
+    ensures { IfOk result (λ p. IsPlanned (job_layout job.now) p) }
 {
     let made = plan_of(
         alloc,
@@ -61,9 +61,9 @@ pub fn answer_by_plan(alloc: Global, job: &Job) -> Result<Answer, NoMemory>
         &job.tensors,
     );
     match made {
-        Ok(plan) => answer_by_events(alloc, job, &plan),
+        Ok(plan) => with_events(alloc, plan),
         Err(end) => match limit_at(end) {
-            Some(cause) => Ok(Answer::Refusal(refused_plan(&cause))),
+            Some(cause) => Ok(Planned::Passes(cause)),
             None => Err(NoMemory),
         },
     }

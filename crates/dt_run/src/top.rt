@@ -1,10 +1,11 @@
 //! The top call.
 
-ghost use Rattle.std.specs.Prelude.{◌≡◌, ◌≢◌, ◌≤◌, map, string_bytes, None};
+ghost use Rattle.std.specs.Prelude.{◌≡◌, ◌≢◌, ◌≤◌, map, string_bytes, IfSome, None};
 ghost use Rattle.std.specs.Io.KnownBytes.{Appends};
 ghost use Rattle.dt_io.specs.Faults.{Rose, AppendsPrefix};
 ghost use Rattle.dt_run.specs.Clauses.{Answers, IfTold, Wrote};
-ghost use Rattle.dt_run.specs.Forms.{form_of as form_in};
+ghost use Rattle.dt_run.specs.EveryOrder.{HaveOrders};
+ghost use Rattle.dt_run.specs.Forms.{asked_bytes, form_of as form_in};
 
 use crate::answering::{Answer, answer_to};
 use crate::form::form_of;
@@ -27,6 +28,9 @@ pub fn distal<R: Source, W: Sink>(
     // What is written where the words are answered.
     ensures done { result ≡ Status.Done → IfTold (map string_bytes words.now) (R.left input.old) (λ o. Answers Status.Done o (W.written out.old) (W.written out.new)) }
     ensures refused { result ≡ Status.Refused → IfTold (map string_bytes words.now) (R.left input.old) (λ o. Answers Status.Refused o (W.written out.old) (W.written out.new)) }
+
+    // If a job is answered, every order that its plan's events allow is defined, within the bounds, and ends in the sums' values.
+    ensures orders { result ≡ Status.Done → IfSome (asked_bytes (form_in (map string_bytes words.now)) (R.left input.old)) HaveOrders }
 
     // When each other status comes.
     ensures faults_words { result ≡ Status.BadWords → form_in (map string_bytes words.now) ≡ None }
