@@ -1,0 +1,4 @@
+pub mod ChangeLaws
+pub mod MemoryUnits
+pub mod Rooms
+pub mod PlanParts

@@ -1,0 +1,4 @@
+pub mod Changes
+pub mod Memories
+pub mod Planned
+pub mod UnitsDone

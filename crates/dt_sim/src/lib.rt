@@ -1,0 +1,12 @@
+//! In: a plan with its events, and the numbers of the tensors. Out: the memories of the nodes after the units of an order. Proved so
+//! far, by `node_changes_are_state_changes`: a change of one node's memory is that change of the state; and of each unit of an
+//! operation that is no task that it makes of the memories' state what its definition says.
+#![tactic(auto)]
+
+mod job;
+mod laws;
+mod memories;
+mod units;
+
+pub use job::Job;
+pub use laws::node_changes_are_state_changes;
