@@ -8,14 +8,13 @@ use Rattle.std.proofs.lemmas.Grind.{common_steps}
 use Rattle.std.proofs.lemmas.List.{get_or-set_same, get_or-set_other}
 use Rattle.std.proofs.lemmas.List.Quantifiers.{position-Some}
 use Rattle.dt_mem.specs.Memory.{Held, Slot, changed, ended, folded, held_at, opened, place_of, value_at, with_more, with_value, written}
-use Rattle.dt_mem.proofs.MapLaws.{begins_with_zeros, ends_with_nothing, folds_one_word, writes_one_word}
+use Rattle.dt_mem.proofs.MapLaws.{begins_with_zeros, ends_with_nothing, folds_one_word, other-changed, writes_one_word}
 use Rattle.dt_runs.specs.Sets.{contains}
 use Rattle.dt_plan.specs.declared.touches.Buffer.{Buffer}
 use Rattle.dt_argument.specs.Frames.{grown}
 use Rattle.dt_events.specs.Conflicts.{is_same_buffer}
 use Rattle.dt_events.specs.State.{Cell, Word, Sign, State, added_to, overwritten, with_buffer, without_buffer}
 use Rattle.dt_events.proofs.Cells.{same_buffer_refl, same_buffer_true}
-use Rattle.dt_leaf.proofs.Cells.{other_changed}
 use Rattle.dt_sim.specs.Memories.{changed_on, memory_at, number_in, sign_of, state_in}
 
 -- Places ----------------------------------------------------------------------------------------------------------------
@@ -53,7 +52,7 @@ abbrev pub sign_at : List Slot → ℕ → Option ℕ
 sign_at m k = sign_of (held_at m k)
 
 other_sign : (f : Slot → Slot) (m : List Slot) (k j : ℕ) → j ≢ k → sign_at (changed f k m) j ≡ sign_at m j
-other_sign f m k j d = ap (λ (o : Option Slot). sign_of (option_and_then (λ (s : Slot). s.held) o)) (other_changed f m k j d)
+other_sign f m k j d = ap (λ (o : Option Slot). sign_of (option_and_then (λ (s : Slot). s.held) o)) (other-changed f m k j d)
 
 opened_sign : (words : List ℕ) (m : List Slot) (k : ℕ) → k < length m → sign_at (changed (opened words) k m) k ≡ Some 0
 opened_sign words [] k h = absurd (omega arith)

@@ -1,4 +1,5 @@
 pub mod ChangeLaws
+pub mod JobTracks
 pub mod MemoryUnits
-pub mod Rooms
 pub mod PlanParts
+pub mod Rooms

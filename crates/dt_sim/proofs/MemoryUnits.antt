@@ -22,10 +22,11 @@ use Rattle.dt_events.specs.Units as unit
 use Rattle.dt_events.specs.Units.{are_present, can_by, next_by, next_of, of_unit, scratch_of}
 use Rattle.dt_events.specs.Jobs.{op_at}
 use Rattle.dt_events.proofs.Cells.{is_the_word}
+use Rattle.dt_leaf.proofs.Cells.{value_slot}
 use Rattle.dt_sim.specs.Memories.{changed_on, memory_at, number_in, sign_of, state_in}
 use Rattle.dt_sim.specs.UnitsDone.{DoesUnit, IsDue, IsHome, IsScratch, Zeroes}
 use Rattle.dt_sim.proofs.ChangeLaws.{beginnings_open, ends_close, folds_add, writes_overwrite}
-use Rattle.dt_sim.proofs.Rooms.{node_within, present_within, same_rooms, value_within}
+use Rattle.dt_sim.proofs.Rooms.{node_within, present_within, same_rooms}
 
 -- Cells -----------------------------------------------------------------------------------------------------------------
 
@@ -68,7 +69,7 @@ pub zero_held : (n k w : ℕ) (mems : List (List Slot)) → is_some (value_at (m
 zero_held n k w mems held =
     let x = the_value (value_at (memory_at mems n) k w) held in
     record {
-      state = λ buffers b at. writes_overwrite buffers mems n k b w x.0 0 at (node_within mems n k (value_within (memory_at mems n) k w held)) x.1;
+      state = λ buffers b at. writes_overwrite buffers mems n k b w x.0 0 at (node_within mems n k (value_slot (memory_at mems n) k w held)) x.1;
       rooms = same_rooms (written w 0) (λ s. refl) mems n k;
     }
 
@@ -221,7 +222,7 @@ module _ (l : Layout) (mems : List (List Slot)) (n m : ℕ) (b c : Buffer) (j k 
   number_read v e = ap (λ (o : Option ℕ). unwrap_or o 0) (word_is (buffers_of l) mems b j n w from ∙ e)
 
   to_node : m < length mems
-  to_node = node_within mems m k (value_within (memory_at mems m) k w to_held)
+  to_node = node_within mems m k (value_slot (memory_at mems m) k w to_held)
 
   word_copied : (v : ℕ) → value_at (memory_at mems n) j w ≡ Some v
       → state_in (buffers_of l) (changed_on (written w v) m k mems) ≡ overwritten m c (w ∷ []) (number_at (state_in (buffers_of l) mems) (Word n b w)) (state_in (buffers_of l) mems)
@@ -242,7 +243,7 @@ module _ (l : Layout) (a u j k : ℕ) (mems : List (List Slot)) (due : IsDue l a
       let none : of_unit (op_at (ops_of l) a).words (u + 1) ≡ None = unit_word (op_at (ops_of l) a).words u None (e ∙ ap (λ (q : Op). slice_get q.words u) is) in
       let can = due_can l a (u + 1) kind.Copy mems due in
       let never : are_present (op_at (ops_of l) a).other (Home (op_at (ops_of l) a).tensor) (op_at (ops_of l) a).node (scratch_of l (op_at (ops_of l) a)) None (state_in (buffers_of l) mems) ≡ true =
-          sym (ap (λ (o : Option ℕ). are_present (op_at (ops_of l) a).other (Home (op_at (ops_of l) a).tensor) (op_at (ops_of l) a).node (scratch_of l (op_at (ops_of l) a)) o (state_in (buffers_of l) mems)) none) ∙ can in
+      sym (ap (λ (o : Option ℕ). are_present (op_at (ops_of l) a).other (Home (op_at (ops_of l) a).tensor) (op_at (ops_of l) a).node (scratch_of l (op_at (ops_of l) a)) o (state_in (buffers_of l) mems)) none) ∙ can in
       absurd (cc)
 
   module _ (w : ℕ) (e : Some w ≡ slice_get p.words u) where
@@ -279,7 +280,7 @@ module _ (l : Layout) (a u j k : ℕ) (mems : List (List Slot)) (due : IsDue l a
       let none : of_unit (op_at (ops_of l) a).words (u + 1) ≡ None = unit_word (op_at (ops_of l) a).words u None (e ∙ ap (λ (q : Op). slice_get q.words u) is) in
       let can = due_can l a (u + 1) kind.Fold mems due in
       let never : are_present (op_at (ops_of l) a).node (scratch_of l (op_at (ops_of l) a)) (op_at (ops_of l) a).other (Home (op_at (ops_of l) a).tensor) None (state_in (buffers_of l) mems) ≡ true =
-          sym (ap (λ (o : Option ℕ). are_present (op_at (ops_of l) a).node (scratch_of l (op_at (ops_of l) a)) (op_at (ops_of l) a).other (Home (op_at (ops_of l) a).tensor) o (state_in (buffers_of l) mems)) none) ∙ can in
+      sym (ap (λ (o : Option ℕ). are_present (op_at (ops_of l) a).node (scratch_of l (op_at (ops_of l) a)) (op_at (ops_of l) a).other (Home (op_at (ops_of l) a).tensor) o (state_in (buffers_of l) mems)) none) ∙ can in
       absurd (cc)
 
   module _ (w : ℕ) (e : Some w ≡ slice_get p.words u) where

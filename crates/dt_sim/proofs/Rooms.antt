@@ -3,7 +3,7 @@ use Rattle.std.proofs.Common.{◌≡◌, ℕ, zero, suc, ◌<◌, ◌≤◌, Boo
 use Rattle.std.specs.Prelude.{is_some, option_and_then, option_map}
 use Rattle.std.proofs.Math.Seq.{map-set_same}
 use Rattle.std.proofs.lemmas.List.{get_or_default, length-map}
-use Rattle.dt_mem.specs.Memory.{Held, Slot, changed, ended, folded, held_at, opened, value_at, value_in, written}
+use Rattle.dt_mem.specs.Memory.{Slot, changed, held_at}
 use Rattle.dt_sim.specs.Memories.{changed_on, memory_at}
 use Rattle.dt_sim.specs.UnitsDone.{rooms_of}
 
@@ -18,12 +18,6 @@ pub present_within : (m : List Slot) (b : ℕ) → is_some (held_at m b) ≡ tru
 present_within [] b e = absurd (cc)
 present_within (s ∷ m) zero e = omega arith
 present_within (s ∷ m) (suc b) e = (let i = present_within m b e in omega (arith, i))
-
--- so does one that has a word
-pub value_within : (m : List Slot) (b w : ℕ) → is_some (value_at m b w) ≡ true → b < length m
-value_within [] b w e = absurd (cc)
-value_within (s ∷ m) zero w e = omega arith
-value_within (s ∷ m) (suc b) w e = (let i = value_within m b w e in omega (arith, i))
 
 -- the memory that was read is that of the node
 pub memory_read : (mems : List (List Slot)) (n b : ℕ) (m : List Slot) → m ≡ get_or mems n m → b < length (memory_at mems n) → b < length m

@@ -1,4 +1,5 @@
 pub mod Changes
 pub mod Memories
 pub mod Planned
+pub mod Tracking
 pub mod UnitsDone

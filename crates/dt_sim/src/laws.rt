@@ -1,6 +1,7 @@
-//! Laws of memories as states.
+//! Laws of memories as states, and of trackers.
 
 ghost use Rattle.dt_sim.specs.Changes.{BeginningsOpen, EndsClose, FoldsAdd, WritesOverwrite};
+ghost use Rattle.dt_sim.specs.Tracking.{PlansAreTracked, TracksFollowTheJob};
 
 /// What the memories of all nodes mean is one state: a buffer that begins or ends on a node is opened or closed there, and a word that
 /// is written or folded into is overwritten or grows, and nothing else changes.
@@ -9,4 +10,11 @@ pub fn node_changes_are_state_changes()
     ensures ends { EndsClose }
     ensures writes { WritesOverwrite }
     ensures folds { FoldsAdd }
+{}
+
+/// A tracker of a plan's operations and events follows the job's orders: it does a unit exactly where the events allow the list with
+/// that unit, and counts it.
+pub fn tracks_follow_the_job()
+    ensures begin { PlansAreTracked }
+    ensures follow { TracksFollowTheJob }
 {}

@@ -1,6 +1,7 @@
 //! In: a plan with its events, and the numbers of the tensors. Out: the memories of the nodes after the units of an order. Proved so
 //! far, by `node_changes_are_state_changes`: a change of one node's memory is that change of the state; and of each unit of an
-//! operation that is no task that it makes of the memories' state what its definition says.
+//! operation that is no task that it makes of the memories' state what its definition says. `tracks_follow_the_job`: a tracker of the
+//! plan's events follows the job's orders.
 #![tactic(auto)]
 
 mod job;
@@ -9,4 +10,4 @@ mod memories;
 mod units;
 
 pub use job::Job;
-pub use laws::node_changes_are_state_changes;
+pub use laws::{node_changes_are_state_changes, tracks_follow_the_job};

@@ -1,6 +1,7 @@
+use Rattle.dt_leaf.proofs.Cells.{value_slot}
 use Rattle.dt_sim.specs.Memories.{memory_at}
-use Rattle.dt_sim.proofs.Rooms.{memory_read, value_within}
+use Rattle.dt_sim.proofs.Rooms.{memory_read}
 use Rattle.dt_sim.proofs.memories.fold_on.Goals as goal
 
 pub fold-requires-clause-exists : goal.fold-requires-clause-exists
-fold-requires-clause-exists c = memory_read c.args.mems.now.items c.args.node c.args.buf c.index_mut-mem.result.now c.index_mut-mem.ensures.value (value_within (memory_at c.args.mems.now.items c.args.node) c.args.buf c.args.word c.requires)
+fold-requires-clause-exists c = memory_read c.args.mems.now.items c.args.node c.args.buf c.index_mut-mem.result.now c.index_mut-mem.ensures.value (value_slot (memory_at c.args.mems.now.items c.args.node) c.args.buf c.args.word c.requires)
