@@ -1,6 +1,6 @@
 -- A change of one buffer of one node, cell by cell.
-use Rattle.std.proofs.Common.{◌≡◌, ◌≢◌, ℕ, zero, suc, ◌+◌, ◌%◌, ◌^◌, ◌<◌, ◌&&◌, ◌||◌, Bool, true, false, not, List, [], ◌∷◌, length, get_or, Option, Some, None, slice_get, nat_eq, nat_lt, refl, sym, ap, ◌∙◌, subst, arith, if◌then◌else◌, eqb-true, eq-eqb}
-use Rattle.std.specs.Prelude.{is_some, option_and_then, option_map, position}
+use Rattle.std.proofs.Common.{◌≡◌, ◌≢◌, ℕ, zero, suc, ◌+◌, ◌%◌, ◌^◌, ◌<◌, ◌&&◌, ◌||◌, Bool, true, false, not, List, [], ◌∷◌, length, get_or, Option, Some, None, nat_eq, nat_lt, refl, sym, ap, ◌∙◌, subst, arith, if◌then◌else◌, eqb-true, eq-eqb}
+use Rattle.std.specs.Prelude.{option_and_then, option_map}
 use Rattle.std.specs.List.{list_any, position_or_len}
 use Rattle.std.proofs.Math.Path.{fun_ext}
 use Rattle.std.proofs.lemmas.Bool.{and_parts, lt-ltb, ne_eqb}
@@ -13,7 +13,7 @@ use Rattle.dt_runs.specs.Sets.{contains}
 use Rattle.dt_plan.specs.declared.touches.Buffer.{Buffer}
 use Rattle.dt_argument.specs.Frames.{grown}
 use Rattle.dt_events.specs.Conflicts.{is_same_buffer}
-use Rattle.dt_events.specs.State.{Cell, Word, Sign, State, added_to, overwritten, with_buffer, without_buffer}
+use Rattle.dt_events.specs.State.{Cell, Word, Sign, added_to, overwritten, with_buffer, without_buffer}
 use Rattle.dt_events.proofs.Cells.{same_buffer_refl, same_buffer_true}
 use Rattle.dt_sim.specs.Memories.{changed_on, memory_at, number_in, sign_of, state_in}
 

@@ -1,10 +1,9 @@
 -- A tracker of a plan's events follows the job's list.
-use Rattle.std.proofs.Common.{◌≡◌, ◌↔◌, ℕ, ◌<◌, true, List, [], ◌∷◌, ◌++◌, length, map, get_or, refl, sym, ap, ◌∙◌, subst, arith}
-use Rattle.std.specs.List.{AllByRecursion}
+use Rattle.std.proofs.Common.{◌≡◌, ◌↔◌, ℕ, ◌<◌, List, [], ◌∷◌, ◌++◌, length, map, sym, ◌∙◌, subst, arith}
 use Rattle.std.proofs.lemmas.List.{get_or-map, get_or-replicate, length-map}
 use Rattle.std.proofs.lemmas.Option.{slice_get-get_or}
 use Rattle.dt_nest.specs.Meaning.{Entries}
-use Rattle.dt_argument.specs.Orders.{IsAllowed, IsEnabled, counts_of, none_done, one_more}
+use Rattle.dt_argument.specs.Orders.{IsAllowed, IsEnabled, counts_of, none_done}
 use Rattle.dt_argument.proofs.Counting.{goes_on}
 use Rattle.dt_plan.specs.declared.ops.Op.{Op}
 use Rattle.dt_plan.specs.declared.kind.Kind.TheVariants.{Free}

@@ -3,3 +3,4 @@ pub mod JobTracks
 pub mod MemoryUnits
 pub mod PlanParts
 pub mod Rooms
+pub mod TaskCells

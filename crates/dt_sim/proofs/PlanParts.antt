@@ -1,8 +1,6 @@
 -- The parts of a layout's plan.
-use Rattle.std.proofs.Common.{◌≡◌, ℕ, ◌<◌, List, refl, sym, ap, ◌∙◌, subst}
+use Rattle.std.proofs.Common.{◌≡◌, refl, ap, ◌∙◌}
 use Rattle.dt_place.specs.Machines.{nodes_of}
-use Rattle.dt_plan.specs.declared.ops.Op.{Op}
-use Rattle.dt_plan.specs.declared.touches.Buffer.{Buffer}
 use Rattle.dt_plan.specs.Layouts.{Layout}
 use Rattle.dt_plan.specs.Operations.{ops_of}
 use Rattle.dt_plan.specs.Bounds.{buffers_of}

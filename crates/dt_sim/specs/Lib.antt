@@ -1,5 +1,6 @@
 pub mod Changes
 pub mod Memories
 pub mod Planned
+pub mod Slots
 pub mod Tracking
 pub mod UnitsDone

@@ -1,6 +1,7 @@
-//! Laws of memories as states, and of trackers.
+//! Laws of memories as states, of tasks and of trackers.
 
 ghost use Rattle.dt_sim.specs.Changes.{BeginningsOpen, EndsClose, FoldsAdd, WritesOverwrite};
+ghost use Rattle.dt_sim.specs.Slots.{TasksLeaveTheRest, TasksSeeTheirNode};
 ghost use Rattle.dt_sim.specs.Tracking.{PlansAreTracked, TracksFollowTheJob};
 
 /// What the memories of all nodes mean is one state: a buffer that begins or ends on a node is opened or closed there, and a word that
@@ -17,4 +18,11 @@ pub fn node_changes_are_state_changes()
 pub fn tracks_follow_the_job()
     ensures begin { PlansAreTracked }
     ensures follow { TracksFollowTheJob }
+{}
+
+/// What a task sees of the state is what its statement's slots name in the memory of its node, and what it leaves there is what it
+/// leaves of the state.
+pub fn tasks_see_their_node()
+    ensures sees { TasksSeeTheirNode }
+    ensures leaves { TasksLeaveTheRest }
 {}

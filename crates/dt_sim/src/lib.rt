@@ -1,7 +1,7 @@
 //! In: a plan with its events, and the numbers of the tensors. Out: the memories of the nodes after the units of an order. Proved so
 //! far, by `node_changes_are_state_changes`: a change of one node's memory is that change of the state; and of each unit of an
 //! operation that is no task that it makes of the memories' state what its definition says. `tracks_follow_the_job`: a tracker of the
-//! plan's events follows the job's orders.
+//! plan's events follows the job's orders. `tasks_see_their_node`: what a task sees and leaves on its node is part of that state.
 #![tactic(auto)]
 
 mod job;
@@ -10,4 +10,4 @@ mod memories;
 mod units;
 
 pub use job::Job;
-pub use laws::{node_changes_are_state_changes, tracks_follow_the_job};
+pub use laws::{node_changes_are_state_changes, tasks_see_their_node, tracks_follow_the_job};

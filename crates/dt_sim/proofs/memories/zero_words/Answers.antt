@@ -1,6 +1,5 @@
-use Rattle.std.proofs.Common.{◌<◌, ◌≡◌, length, sym, ◌∙◌, ℕ, subst, arith}
+use Rattle.std.proofs.Common.{◌<◌, length, sym, ◌∙◌, ℕ, subst, arith}
 use Rattle.std.proofs.lemmas.Option.{slice_get-get_or}
-use Rattle.dt_sim.specs.Memories.{memory_at}
 use Rattle.dt_sim.proofs.MemoryUnits.{zero_more}
 use Rattle.dt_sim.proofs.Rooms.{same_count}
 use Rattle.dt_sim.proofs.memories.zero_words.Goals.{in-None, in-Some}
