@@ -4,3 +4,4 @@ pub mod MemoryUnits
 pub mod PlanParts
 pub mod Rooms
 pub mod TaskCells
+pub mod TaskDone

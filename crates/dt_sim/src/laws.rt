@@ -2,6 +2,7 @@
 
 ghost use Rattle.dt_sim.specs.Changes.{BeginningsOpen, EndsClose, FoldsAdd, WritesOverwrite};
 ghost use Rattle.dt_sim.specs.Slots.{TasksLeaveTheRest, TasksSeeTheirNode};
+ghost use Rattle.dt_sim.specs.TaskItems.{ItemsAreUnits};
 ghost use Rattle.dt_sim.specs.Tracking.{PlansAreTracked, TracksFollowTheJob};
 
 /// What the memories of all nodes mean is one state: a buffer that begins or ends on a node is opened or closed there, and a word that
@@ -25,4 +26,10 @@ pub fn tracks_follow_the_job()
 pub fn tasks_see_their_node()
     ensures sees { TasksSeeTheirNode }
     ensures leaves { TasksLeaveTheRest }
+{}
+
+/// A task's item that the state defines can be done on the memory of its node alone, and then the state of the memories is that after
+/// the item.
+pub fn items_are_units()
+    ensures { ItemsAreUnits }
 {}

@@ -10,4 +10,6 @@ mod memories;
 mod units;
 
 pub use job::Job;
-pub use laws::{node_changes_are_state_changes, tasks_see_their_node, tracks_follow_the_job};
+pub use laws::{
+    items_are_units, node_changes_are_state_changes, tasks_see_their_node, tracks_follow_the_job,
+};
