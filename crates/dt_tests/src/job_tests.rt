@@ -1,8 +1,9 @@
 //! Jobs that are read, and texts that are no jobs, each with its first line that has a cause.
 
+ghost use Rattle.std.specs.Prelude.{◌<◌, length};
+
 use dt_base::{Name, NoMemory};
 use dt_job::{JobEnd, Show, read_job};
-use dt_model::Cause;
 use dt_place::{Placement, Symbol};
 use std::alloc::Global;
 use std::test::Fail;
@@ -36,68 +37,6 @@ fn text_with(alloc: Global, from: usize, to: usize, lines: &[u8]) -> Result<Vec<
     Ok(text)
 }
 
-/// A cause, with the letter or the place that it names.
-#[derive(Clone, Copy, Debug, PartialEq, Eq)]
-enum Fault {
-    LineTooLong,
-    BadByte(u32),
-    UnknownWord,
-    OutOfPlace,
-    Syntax,
-    BadNumber,
-    Unfinished,
-    Version,
-    BadDim,
-    NameTaken(u8),
-    TooManyTensors,
-    BadShape,
-    BadFormat,
-    TooManyStored,
-    UnknownTensor(u8),
-    Twice(u8),
-    WrongOrder(u8),
-    NameTwice(u8),
-    WrongDims,
-    UnknownName(u8),
-    NameTwiceInLevel(u8),
-    WrongCount,
-    TooManyStatements,
-    ExtentClash(u8),
-    UnevenReduction(u8),
-    Other,
-}
-
-fn named(cause: &Cause) -> Fault {
-    match cause {
-        Cause::LineTooLong => Fault::LineTooLong,
-        Cause::BadByte(place) => Fault::BadByte(*place),
-        Cause::UnknownWord => Fault::UnknownWord,
-        Cause::OutOfPlace => Fault::OutOfPlace,
-        Cause::Syntax => Fault::Syntax,
-        Cause::BadNumber => Fault::BadNumber,
-        Cause::Unfinished => Fault::Unfinished,
-        Cause::Version => Fault::Version,
-        Cause::BadDim => Fault::BadDim,
-        Cause::NameTaken(name) => Fault::NameTaken(letter(name)),
-        Cause::TooManyTensors => Fault::TooManyTensors,
-        Cause::BadShape => Fault::BadShape,
-        Cause::BadFormat => Fault::BadFormat,
-        Cause::TooManyStored => Fault::TooManyStored,
-        Cause::UnknownTensor(name) => Fault::UnknownTensor(letter(name)),
-        Cause::Twice(name) => Fault::Twice(letter(name)),
-        Cause::WrongOrder(name) => Fault::WrongOrder(letter(name)),
-        Cause::NameTwice(name) => Fault::NameTwice(letter(name)),
-        Cause::WrongDims => Fault::WrongDims,
-        Cause::UnknownName(name) => Fault::UnknownName(letter(name)),
-        Cause::NameTwiceInLevel(name) => Fault::NameTwiceInLevel(letter(name)),
-        Cause::WrongCount => Fault::WrongCount,
-        Cause::TooManyStatements => Fault::TooManyStatements,
-        Cause::ExtentClash(name) => Fault::ExtentClash(letter(name)),
-        Cause::UnevenReduction(name) => Fault::UnevenReduction(letter(name)),
-        _ => Fault::Other,
-    }
-}
-
 fn letter(name: &Name) -> u8 {
     match name.as_slice() {
         [letter] => *letter,
@@ -105,11 +44,11 @@ fn letter(name: &Name) -> u8 {
     }
 }
 
-/// The line that has a cause, and the cause.
-fn refusal(end: &JobEnd) -> Option<(u32, Fault)> {
+/// Whether the job is refused at this line, with the cause of this text.
+fn is_refused(end: &JobEnd, line: u32, text: &[u8]) -> bool {
     match end {
-        JobEnd::Refused(line, cause) => Some((*line, named(cause))),
-        JobEnd::NoMemory => None,
+        JobEnd::Refused(at, cause) => *at == line && cause.text().as_slice() == text,
+        JobEnd::NoMemory => false,
     }
 }
 
@@ -196,92 +135,86 @@ fn statements_and_outputs_may_be_any_number(rt: HostRuntime) -> Result<(), Fail>
 
 #[test]
 fn the_first_line_with_a_cause_is_told(rt: HostRuntime) -> Result<(), Fail> {
-    let cases: [(usize, usize, &[u8], u32, Fault); 29] = [
-        (1, 10, b"", 1, Fault::Unfinished),
-        (2, 10, b"", 2, Fault::Unfinished),
-        (9, 10, b"", 9, Fault::Unfinished),
-        (1, 1, b"distal 2\n", 1, Fault::Version),
-        (1, 1, b"\n# two\n\r\n \t\ndistal 2\r\n", 5, Fault::Version),
-        (1, 1, b"distal x\n", 1, Fault::Syntax),
-        (1, 1, b"distal 18446744073709551616\n", 1, Fault::BadNumber),
-        (1, 1, b"machine 1\n", 1, Fault::OutOfPlace),
-        (2, 2, b"distal 1\n", 2, Fault::OutOfPlace),
-        (2, 2, b"tensor D 2\n", 2, Fault::OutOfPlace),
-        (2, 2, b"machine 2x2\nmachine 0\n", 3, Fault::OutOfPlace),
-        (2, 2, b"place A xy -> xy\n", 2, Fault::OutOfPlace),
-        (2, 2, b"machine \x80 1\n", 2, Fault::BadByte(9)),
-        (3, 3, b"machine 1\n", 3, Fault::OutOfPlace),
-        (3, 3, b"entries A 0,0=1\n", 3, Fault::UnknownWord),
-        (8, 8, b"end\n", 8, Fault::OutOfPlace),
-        (9, 9, b"print A\n", 9, Fault::OutOfPlace),
-        (9, 9, b"stmt A(i,j) = B(i,j)\n", 9, Fault::OutOfPlace),
-        (9, 9, b"entries A 0,0=1\n", 9, Fault::UnknownWord),
-        (9, 9, b"end 1\n", 9, Fault::Syntax),
-        (9, 9, b"end\nend\n", 10, Fault::OutOfPlace),
-        (9, 9, b"end\ntensor D 2\n", 10, Fault::OutOfPlace),
-        (9, 9, b"end\nplace Z\n", 10, Fault::OutOfPlace),
-        (10, 10, b"print\n", 10, Fault::Syntax),
-        (10, 10, b"print Z\n", 10, Fault::UnknownTensor(b'Z')),
-        (10, 10, b"print A\nstmt A(i,j) = 1\n", 11, Fault::OutOfPlace),
-        (
-            8,
-            8,
-            b"stmt A(i,j) = D(i,j)\n",
-            8,
-            Fault::UnknownTensor(b'D'),
-        ),
-        (3, 3, b"tensor A 3x2\n", 8, Fault::ExtentClash(b'i')),
+    let cases: [(usize, usize, &[u8], u32, &[u8]); 29] = [
+        (1, 10, b"", 1, b"Unfinished"),
+        (2, 10, b"", 2, b"Unfinished"),
+        (9, 10, b"", 9, b"Unfinished"),
+        (1, 1, b"distal 2\n", 1, b"Version"),
+        (1, 1, b"\n# two\n\r\n \t\ndistal 2\r\n", 5, b"Version"),
+        (1, 1, b"distal x\n", 1, b"Syntax"),
+        (1, 1, b"distal 18446744073709551616\n", 1, b"BadNumber"),
+        (1, 1, b"machine 1\n", 1, b"OutOfPlace"),
+        (2, 2, b"distal 1\n", 2, b"OutOfPlace"),
+        (2, 2, b"tensor D 2\n", 2, b"OutOfPlace"),
+        (2, 2, b"machine 2x2\nmachine 0\n", 3, b"OutOfPlace"),
+        (2, 2, b"place A xy -> xy\n", 2, b"OutOfPlace"),
+        (2, 2, b"machine \x80 1\n", 2, b"BadByte 9"),
+        (3, 3, b"machine 1\n", 3, b"OutOfPlace"),
+        (3, 3, b"entries A 0,0=1\n", 3, b"UnknownWord"),
+        (8, 8, b"end\n", 8, b"OutOfPlace"),
+        (9, 9, b"print A\n", 9, b"OutOfPlace"),
+        (9, 9, b"stmt A(i,j) = B(i,j)\n", 9, b"OutOfPlace"),
+        (9, 9, b"entries A 0,0=1\n", 9, b"UnknownWord"),
+        (9, 9, b"end 1\n", 9, b"Syntax"),
+        (9, 9, b"end\nend\n", 10, b"OutOfPlace"),
+        (9, 9, b"end\ntensor D 2\n", 10, b"OutOfPlace"),
+        (9, 9, b"end\nplace Z\n", 10, b"OutOfPlace"),
+        (10, 10, b"print\n", 10, b"Syntax"),
+        (10, 10, b"print Z\n", 10, b"UnknownTensor Z"),
+        (10, 10, b"print A\nstmt A(i,j) = 1\n", 11, b"OutOfPlace"),
+        (8, 8, b"stmt A(i,j) = D(i,j)\n", 8, b"UnknownTensor D"),
+        (3, 3, b"tensor A 3x2\n", 8, b"ExtentClash i"),
         (
             3,
             10,
             b"tensor A 2\ntensor B 2x2\ntensor c 2\nstmt A(i) = B(i,k) + c(i)\n",
             6,
-            Fault::UnevenReduction(b'k'),
+            b"UnevenReduction k",
         ),
     ];
     for (from, to, lines, line, cause) in cases {
         let text = text_with(rt.alloc(), from, to, lines)?;
         assert!(rt; text.len() < 1000);
         let end = read_job(rt.alloc(), text.as_slice()).err().ok_or("a job")?;
-        assert_eq!(rt; refusal(&end), Some((line, cause)));
+        assert!(rt; is_refused(&end, line, cause));
     }
     Ok(())
 }
 
 #[test]
 fn declarations_are_refused(rt: HostRuntime) -> Result<(), Fail> {
-    let cases: [(&[u8], Fault); 25] = [
-        (b"tensor D\n", Fault::Syntax),
-        (b"tensor 2D 2\n", Fault::Syntax),
-        (b"tensor D 2x\n", Fault::Syntax),
-        (b"tensor D 2 c\n", Fault::Syntax),
-        (b"tensor D 2 d d\n", Fault::Syntax),
-        (b"tensor D 2x18446744073709551616\n", Fault::BadNumber),
-        (b"tensor A 0\n", Fault::NameTaken(b'A')),
-        (b"tensor D 2x0\n", Fault::BadShape),
-        (b"tensor D 4097\n", Fault::BadShape),
-        (b"tensor D 2x2x2x2x2\n", Fault::BadShape),
-        (b"tensor D 4096x4096x2 d\n", Fault::BadShape),
-        (b"tensor D 2x2 d\n", Fault::BadFormat),
-        (b"tensor D scalar d\n", Fault::BadFormat),
-        (b"tensor D 1025x1024\n", Fault::TooManyStored),
-        (b"data B\n", Fault::Syntax),
-        (b"data B 1 2 3 x\n", Fault::Syntax),
-        (b"data B 1 2 3 18446744073709551616\n", Fault::BadNumber),
-        (b"data Z 1\n", Fault::UnknownTensor(b'Z')),
-        (b"data C 1 2 3\n", Fault::WrongCount),
-        (b"data B 1\n", Fault::Twice(b'B')),
-        (b"fill C up\n", Fault::Syntax),
-        (b"fill C seed x\n", Fault::Syntax),
-        (b"fill C seed 18446744073709551616\n", Fault::BadNumber),
-        (b"fill Z ramp\n", Fault::UnknownTensor(b'Z')),
-        (b"fill B seed 1\n", Fault::Twice(b'B')),
+    let cases: [(&[u8], &[u8]); 25] = [
+        (b"tensor D\n", b"Syntax"),
+        (b"tensor 2D 2\n", b"Syntax"),
+        (b"tensor D 2x\n", b"Syntax"),
+        (b"tensor D 2 c\n", b"Syntax"),
+        (b"tensor D 2 d d\n", b"Syntax"),
+        (b"tensor D 2x18446744073709551616\n", b"BadNumber"),
+        (b"tensor A 0\n", b"NameTaken A"),
+        (b"tensor D 2x0\n", b"BadShape"),
+        (b"tensor D 4097\n", b"BadShape"),
+        (b"tensor D 2x2x2x2x2\n", b"BadShape"),
+        (b"tensor D 4096x4096x2 d\n", b"BadShape"),
+        (b"tensor D 2x2 d\n", b"BadFormat"),
+        (b"tensor D scalar d\n", b"BadFormat"),
+        (b"tensor D 1025x1024\n", b"TooManyStored"),
+        (b"data B\n", b"Syntax"),
+        (b"data B 1 2 3 x\n", b"Syntax"),
+        (b"data B 1 2 3 18446744073709551616\n", b"BadNumber"),
+        (b"data Z 1\n", b"UnknownTensor Z"),
+        (b"data C 1 2 3\n", b"WrongCount"),
+        (b"data B 1\n", b"Twice B"),
+        (b"fill C up\n", b"Syntax"),
+        (b"fill C seed x\n", b"Syntax"),
+        (b"fill C seed 18446744073709551616\n", b"BadNumber"),
+        (b"fill Z ramp\n", b"UnknownTensor Z"),
+        (b"fill B seed 1\n", b"Twice B"),
     ];
     for (lines, cause) in cases {
         let text = text_with(rt.alloc(), 7, 7, lines)?;
         assert!(rt; text.len() < 1000);
         let end = read_job(rt.alloc(), text.as_slice()).err().ok_or("a job")?;
-        assert_eq!(rt; refusal(&end), Some((7, cause)));
+        assert!(rt; is_refused(&end, 7, cause));
     }
     Ok(())
 }
@@ -303,30 +236,30 @@ fn machines_have_1_to_64_nodes(rt: HostRuntime) -> Result<(), Fail> {
         assert_eq!(rt; job.machine.dims(), dims);
         assert_eq!(rt; job.machine.nodes(), nodes);
     }
-    let refused: [(&[u8], Fault); 17] = [
-        (b"machine\n", Fault::Syntax),
-        (b"machine 2 2\n", Fault::Syntax),
-        (b"machine 2 / 2\n", Fault::Syntax),
-        (b"machine 2x2/2\n", Fault::Syntax),
-        (b"machine 2 memory 8\n", Fault::Syntax),
-        (b"machine 2x\n", Fault::Syntax),
-        (b"machine x\n", Fault::Syntax),
-        (b"machine 2,2\n", Fault::Syntax),
-        (b"machine 0xa\n", Fault::Syntax),
-        (b"machine 18446744073709551616xa\n", Fault::Syntax),
-        (b"machine 18446744073709551616\n", Fault::BadNumber),
-        (b"machine 0x18446744073709551616\n", Fault::BadNumber),
-        (b"machine 0\n", Fault::BadDim),
-        (b"machine 2x0\n", Fault::BadDim),
-        (b"machine 65\n", Fault::BadDim),
-        (b"machine 2x33\n", Fault::BadDim),
-        (b"machine 1x1x1x1x1x1x1\n", Fault::BadDim),
+    let refused: [(&[u8], &[u8]); 17] = [
+        (b"machine\n", b"Syntax"),
+        (b"machine 2 2\n", b"Syntax"),
+        (b"machine 2 / 2\n", b"Syntax"),
+        (b"machine 2x2/2\n", b"Syntax"),
+        (b"machine 2 memory 8\n", b"Syntax"),
+        (b"machine 2x\n", b"Syntax"),
+        (b"machine x\n", b"Syntax"),
+        (b"machine 2,2\n", b"Syntax"),
+        (b"machine 0xa\n", b"Syntax"),
+        (b"machine 18446744073709551616xa\n", b"Syntax"),
+        (b"machine 18446744073709551616\n", b"BadNumber"),
+        (b"machine 0x18446744073709551616\n", b"BadNumber"),
+        (b"machine 0\n", b"BadDim"),
+        (b"machine 2x0\n", b"BadDim"),
+        (b"machine 65\n", b"BadDim"),
+        (b"machine 2x33\n", b"BadDim"),
+        (b"machine 1x1x1x1x1x1x1\n", b"BadDim"),
     ];
     for (line, cause) in refused {
         let text = text_with(rt.alloc(), 2, 2, line)?;
         assert!(rt; text.len() < 1000);
         let end = read_job(rt.alloc(), text.as_slice()).err().ok_or("a job")?;
-        assert_eq!(rt; refusal(&end), Some((2, cause)));
+        assert!(rt; is_refused(&end, 2, cause));
     }
     Ok(())
 }
@@ -417,51 +350,47 @@ fn behind_placed(alloc: Global, lines: &[u8]) -> Result<Vec<u8>, NoMemory> {
 
 #[test]
 fn places_are_refused(rt: HostRuntime) -> Result<(), Fail> {
-    let cases: [(&[u8], u32, Fault); 33] = [
-        (b"place\n", 9, Fault::Syntax),
-        (b"place C xy xy\n", 9, Fault::Syntax),
-        (b"place C xy -> x y\n", 9, Fault::Syntax),
-        (b"place C xy -> xy / xy\n", 9, Fault::Syntax),
-        (b"place C xy => xy\n", 9, Fault::Syntax),
-        (b"place C xY -> xy\n", 9, Fault::Syntax),
-        (b"place C xy -> x*\n", 9, Fault::Syntax),
-        (b"place C xy -> x0\n", 9, Fault::Syntax),
-        (b"place C xy -> -\n", 9, Fault::Syntax),
-        (b"place C xy -> nz\n", 9, Fault::Syntax),
-        (b"place 2C xy -> xy\n", 9, Fault::Syntax),
-        (b"place Z2 xy ->\n", 9, Fault::Syntax),
-        (b"place Z xy -> xy\n", 9, Fault::UnknownTensor(b'Z')),
+    let cases: [(&[u8], u32, &[u8]); 33] = [
+        (b"place\n", 9, b"Syntax"),
+        (b"place C xy xy\n", 9, b"Syntax"),
+        (b"place C xy -> x y\n", 9, b"Syntax"),
+        (b"place C xy -> xy / xy\n", 9, b"Syntax"),
+        (b"place C xy => xy\n", 9, b"Syntax"),
+        (b"place C xY -> xy\n", 9, b"Syntax"),
+        (b"place C xy -> x*\n", 9, b"Syntax"),
+        (b"place C xy -> x0\n", 9, b"Syntax"),
+        (b"place C xy -> -\n", 9, b"Syntax"),
+        (b"place C xy -> nz\n", 9, b"Syntax"),
+        (b"place 2C xy -> xy\n", 9, b"Syntax"),
+        (b"place Z2 xy ->\n", 9, b"Syntax"),
+        (b"place Z xy -> xy\n", 9, b"UnknownTensor Z"),
         // Each test comes before those behind it.
-        (b"place Z xx -> a\n", 9, Fault::UnknownTensor(b'Z')),
-        (b"place A xy -> xy\n", 9, Fault::Twice(b'A')),
-        (b"place A xxx -> a\n", 9, Fault::Twice(b'A')),
-        (
-            b"place C xy -> yx\nplace C xy -> yx\n",
-            10,
-            Fault::Twice(b'C'),
-        ),
-        (b"place b xy -> xy\n", 9, Fault::WrongOrder(b'b')),
-        (b"place b xx -> a\n", 9, Fault::WrongOrder(b'b')),
-        (b"place b - -> xy\n", 9, Fault::WrongOrder(b'b')),
-        (b"place s x -> xy\n", 9, Fault::WrongOrder(b's')),
-        (b"place C xx -> xx\n", 9, Fault::NameTwice(b'x')),
-        (b"place D yxxy -> a\n", 9, Fault::NameTwice(b'x')),
-        (b"place C xy -> x\n", 9, Fault::WrongDims),
-        (b"place C xy -> zzz\n", 9, Fault::WrongDims),
-        (b"place b x -> x\n", 9, Fault::WrongDims),
-        (b"place C xy -> xz\n", 9, Fault::UnknownName(b'z')),
-        (b"place C xy -> zz\n", 9, Fault::UnknownName(b'z')),
-        (b"place s - -> xy\n", 9, Fault::UnknownName(b'x')),
-        (b"place C xy -> xx\n", 9, Fault::NameTwiceInLevel(b'x')),
-        (b"place D abcd -> dd\n", 9, Fault::NameTwiceInLevel(b'd')),
-        (b"place b x -> xx\n", 9, Fault::NameTwiceInLevel(b'x')),
-        (b"print C\nplace Z\n", 10, Fault::OutOfPlace),
+        (b"place Z xx -> a\n", 9, b"UnknownTensor Z"),
+        (b"place A xy -> xy\n", 9, b"Twice A"),
+        (b"place A xxx -> a\n", 9, b"Twice A"),
+        (b"place C xy -> yx\nplace C xy -> yx\n", 10, b"Twice C"),
+        (b"place b xy -> xy\n", 9, b"WrongOrder b"),
+        (b"place b xx -> a\n", 9, b"WrongOrder b"),
+        (b"place b - -> xy\n", 9, b"WrongOrder b"),
+        (b"place s x -> xy\n", 9, b"WrongOrder s"),
+        (b"place C xx -> xx\n", 9, b"NameTwice x"),
+        (b"place D yxxy -> a\n", 9, b"NameTwice x"),
+        (b"place C xy -> x\n", 9, b"WrongDims"),
+        (b"place C xy -> zzz\n", 9, b"WrongDims"),
+        (b"place b x -> x\n", 9, b"WrongDims"),
+        (b"place C xy -> xz\n", 9, b"UnknownName z"),
+        (b"place C xy -> zz\n", 9, b"UnknownName z"),
+        (b"place s - -> xy\n", 9, b"UnknownName x"),
+        (b"place C xy -> xx\n", 9, b"NameTwiceInLevel x"),
+        (b"place D abcd -> dd\n", 9, b"NameTwiceInLevel d"),
+        (b"place b x -> xx\n", 9, b"NameTwiceInLevel x"),
+        (b"print C\nplace Z\n", 10, b"OutOfPlace"),
     ];
     for (lines, line, cause) in cases {
         let text = behind_placed(rt.alloc(), lines)?;
         assert!(rt; text.len() < 1000);
         let end = read_job(rt.alloc(), text.as_slice()).err().ok_or("a job")?;
-        assert_eq!(rt; refusal(&end), Some((line, cause)));
+        assert!(rt; is_refused(&end, line, cause));
     }
     Ok(())
 }
@@ -500,35 +429,37 @@ fn comment(alloc: Global, count: u32) -> Result<Vec<u8>, NoMemory> {
     Ok(text)
 }
 
+/// Whether the text is a job, or, where a line and a cause are given, is refused with these.
+fn comes_of(alloc: Global, text: &[u8], refused: Option<(u32, &[u8])>) -> bool
+    requires { length text.now < 2000000 }
+{
+    match (read_job(alloc, text), refused) {
+        (Ok(_job), None) => true,
+        (Err(end), Some((line, cause))) => is_refused(&end, line, cause),
+        _ => false,
+    }
+}
+
 #[test]
 fn limits_are_kept(rt: HostRuntime) -> Result<(), Fail> {
-    let cases = [
+    let cases: [(Vec<u8>, Option<(u32, &[u8])>); 7] = [
         (tensors(rt.alloc(), 32, b"")?, None),
-        (
-            tensors(rt.alloc(), 33, b"")?,
-            Some((35, Fault::TooManyTensors)),
-        ),
+        (tensors(rt.alloc(), 33, b"")?, Some((35, b"TooManyTensors"))),
         (
             tensors(rt.alloc(), 32, b"tensor x 0\n")?,
-            Some((35, Fault::TooManyTensors)),
+            Some((35, b"TooManyTensors")),
         ),
         (statements(rt.alloc(), 32)?, None),
         (
             statements(rt.alloc(), 33)?,
-            Some((68, Fault::TooManyStatements)),
+            Some((68, b"TooManyStatements")),
         ),
         (comment(rt.alloc(), 1_048_576)?, None),
-        (
-            comment(rt.alloc(), 1_048_577)?,
-            Some((3, Fault::LineTooLong)),
-        ),
+        (comment(rt.alloc(), 1_048_577)?, Some((3, b"LineTooLong"))),
     ];
-    for (text, wanted) in &cases {
+    for (text, refused) in &cases {
         assert!(rt; text.len() < 2_000_000);
-        match read_job(rt.alloc(), text.as_slice()) {
-            Ok(_job) => assert_eq!(rt; None, *wanted),
-            Err(end) => assert_eq!(rt; refusal(&end), *wanted),
-        }
+        assert!(rt; comes_of(rt.alloc(), text.as_slice(), *refused));
     }
     Ok(())
 }
