@@ -29,11 +29,7 @@ mod progress;
 mod questions;
 mod schedules;
 mod search;
-#[cfg(test)]
-mod search_tests;
 mod steps;
-#[cfg(test)]
-mod tests;
 mod value_tables;
 mod visited;
 mod visits;

@@ -2,12 +2,9 @@
 
 ghost use Rattle.std.specs.Prelude.{◌≡◌, ◌≤◌, IfOk, [], ◌∷◌, length};
 
-use crate::commands::{Rewrite, rewritten};
-use crate::loops::{Kernel, Nest};
-use crate::parts::SchedParts;
-use crate::schedules::Sched;
 use dt_base::{Extents, Name, Names, NoMemory, Vars};
 use dt_model::{Access, Cause, Stmt, Terms};
+use dt_nest::{Kernel, Nest, Rewrite, Sched, SchedParts, rewritten};
 use std::alloc::Global;
 use std::test::Fail;
 

@@ -3,7 +3,7 @@ use Rattle.std.specs.List.{IsDistinct}
 use Rattle.std.specs.Str.{bytes_eq}
 use Rattle.dt_model.specs.declared.stmt.Term.{Term}
 use Rattle.dt_nest.specs.Chain.{IsSchedulable}
-use Rattle.dt_nest.proofs.tests.empty_sum.Goals as goal
+use Rattle.dt_visit_tests.proofs.nest_tests.empty_sum.Goals as goal
 
 one_distinct : (name : List ℕ) → IsDistinct bytes_eq (name ∷ [])
 unfolding IsDistinct
