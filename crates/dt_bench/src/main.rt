@@ -5,6 +5,7 @@
 
 mod case;
 mod case_end;
+mod dots;
 mod files;
 mod homes;
 mod jobs;
@@ -12,6 +13,7 @@ mod leaves;
 mod levels;
 mod memories;
 mod needs;
+mod paired;
 mod walk;
 
 use case::{Case, answer};
@@ -22,6 +24,7 @@ use leaves::{NodeStep, node};
 use levels::{levels, levels_case};
 use memories::{BufferCall, MemoryCall, buffer, memory};
 use needs::needs;
+use paired::{Paired, paired_sum};
 use std::alloc::Global;
 use std::process::ExitCode;
 use std::{env, io};
@@ -68,6 +71,9 @@ fn run(alloc: Global, word: &str, size: u32) -> Result<u32, CaseEnd> {
         }
         return walked(alloc, walk, size);
     }
+    if let Some(end) = paired_case(alloc, word, size) {
+        return end;
+    }
     if let Some(step) = NodeStep::from_word(word) {
         if size > leaves::LARGEST_EXTENT {
             return Err(CaseEnd::Refused);
@@ -89,6 +95,15 @@ fn run(alloc: Global, word: &str, size: u32) -> Result<u32, CaseEnd> {
             Ok(answer(alloc, case, size)?)
         }
     }
+}
+
+/// The answer where the word is a case of a nest whose loop is split and collapsed again and again.
+fn paired_case(alloc: Global, word: &str, size: u32) -> Option<Result<u32, CaseEnd>> {
+    let nest = Paired::from_word(word)?;
+    if size > paired::LARGEST_EXTENT {
+        return Some(Err(CaseEnd::Refused));
+    }
+    Some(paired_sum(alloc, nest, size))
 }
 
 /// The answer where the word is a case of a node's memory.

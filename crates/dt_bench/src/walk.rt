@@ -98,7 +98,7 @@ fn left_at<L: Locator>(visits: &Visits<L>, item: Visit) -> u32
 }
 
 /// The sum of all values at all visits, modulo a prime.
-fn evaluated(alloc: Global, sched: &Sched, tensors: &Tensors) -> Result<u32, CaseEnd>
+pub fn evaluated(alloc: Global, sched: &Sched, tensors: &Tensors) -> Result<u32, CaseEnd>
     requires { FitsStored (map stored_of tensors.now) sched.now }
 {
     let mut visits = Visits::over(alloc, sched, tensors, &[])?;
