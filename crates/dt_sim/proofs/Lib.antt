@@ -5,3 +5,4 @@ pub mod PlanParts
 pub mod Rooms
 pub mod TaskCells
 pub mod TaskDone
+pub mod TaskUnits

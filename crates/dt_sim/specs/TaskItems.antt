@@ -1,5 +1,5 @@
 -- The last item of a task's visits, on the memories of the nodes.
-use Rattle.std.specs.Prelude.{◌≡◌, ℕ, ◌<◌, true, List, length, Some, slice_get, slice_set}
+use Rattle.std.specs.Prelude.{◌≡◌, ℕ, ◌<◌, true, List, length, IfSome, Some, slice_get, slice_set}
 use Rattle.dt_mem.specs.Memory.{Slot}
 use Rattle.dt_nest.specs.Run.{Run}
 use Rattle.dt_nest.specs.Visits.{Item}
@@ -19,6 +19,15 @@ pub record IsItemDue (l : Layout) (o : Op) (p : Part) (r : Run) (item : Item) (m
   pub last : r.last ≡ Some item
   pub short : IsShortItem item
   pub can : item_can l o (Some p) (Some item) (state_in (buffers_of l) mems) ≡ true
+  pub node : o.node < length mems
+  pub buffers : length (memory_at mems o.node) ≡ length (buffers_of l)
+  pub named : AreSlots l o.stmt slots
+
+-- A run over the visits of an operation's part, with room for the values of all variables, where the memory of the operation's node has all buffers and slots
+-- name those of its statement.
+pub record IsTaskOver (l : Layout) (o : Op) (r : Run) (mems : List (List Slot)) (slots : List ℕ) (room : ℕ) : Type 0 where
+  pub over : IfSome (slice_get l.parts o.stmt) (λ p. GoesOver r p.sched l.stored × (room ≡ length p.sched.names))
+  pub short : IfSome r.last IsShortItem
   pub node : o.node < length mems
   pub buffers : length (memory_at mems o.node) ≡ length (buffers_of l)
   pub named : AreSlots l o.stmt slots
