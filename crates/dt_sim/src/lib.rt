@@ -7,6 +7,7 @@
 mod job;
 mod laws;
 mod memories;
+mod slots;
 mod tasks;
 mod units;
 
