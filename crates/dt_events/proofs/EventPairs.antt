@@ -1,5 +1,5 @@
 -- The pairs of a plan's events.
-use Rattle.std.proofs.Common.{◌≡◌, ℕ, ◌<◌, true, ◌&&◌, nat_eq, List, length, get_or, refl, sym, ◌∙◌, ltb-true}
+use Rattle.std.proofs.Common.{◌≡◌, ℕ, ◌<◌, true, ◌&&◌, nat_eq, length, get_or, refl, sym, ◌∙◌, ltb-true}
 use Rattle.std.proofs.lemmas.Bool.{and_from, and_parts, eq-eqb}
 use Rattle.std.proofs.lemmas.List.Folds.{list_any_at}
 use Rattle.dt_argument.specs.Events.{is_listed}

@@ -9,6 +9,7 @@ pub mod BlockRows
 pub mod BlockRuns
 pub mod BlockSteps
 pub mod BlockSums
+pub mod Buckets
 pub mod Cells
 pub mod EventPairs
 pub mod Frames
@@ -26,6 +27,7 @@ pub mod LiveBounds
 pub mod MoveFrames
 pub mod NamedFacts
 pub mod NearestSteps
+pub mod NextNumbers
 pub mod OperationMoves
 pub mod OwnCells
 pub mod TaskFrames

@@ -1,5 +1,5 @@
 -- The events of one operation, found step by step over the later operations.
-use Rattle.std.proofs.Common.{◌≡◌, ℕ, zero, suc, ◌+◌, ◌<◌, ◌≤◌, Bool, true, false, not, ◌&&◌, ◌||◌, List, [], ◌∷◌, ◌++◌, length, map, filter, take, get_or, nat_lt, refl, sym, ap, ◌∙◌, arith, ⊎_elim}
+use Rattle.std.proofs.Common.{◌≡◌, ℕ, zero, suc, ◌+◌, ◌<◌, ◌≤◌, Bool, true, false, not, ◌&&◌, ◌||◌, List, [], ◌∷◌, ◌++◌, length, map, filter, take, get_or, nat_lt, append-nil, refl, sym, ap, ◌∙◌, arith, ⊎_elim}
 use Rattle.std.specs.Prelude.{cond}
 use Rattle.std.specs.List.{flat_map, list_any}
 use Rattle.std.proofs.lemmas.Bool.{cases_lt, lt-ltb, le-ltb}
@@ -64,6 +64,17 @@ any_more f xs n h =
     one : (b : Bool) → (b || false) ≡ b
     one true = refl
     one false = refl
+
+-- what passes no number of a stretch
+pub none_between : (q : ℕ → Bool) (m n : ℕ) → m ≤ n → ((x : ℕ) → m ≤ x → x < n → q x ≡ false) → filter q (below n) ≡ filter q (below m)
+none_between q m zero h none = let e : m ≡ 0 = omega (arith, h) in ap (λ k. filter q (below k)) (sym e)
+none_between q m (suc n) h none =
+    ⊎_elim
+    (λ (k : n < m). let e : m ≡ suc n = omega (arith, h, k) in ap (λ i. filter q (below i)) (sym e))
+    (λ (k : m ≤ n).
+    filter-append q (below n) (n ∷ []) ∙ ap (λ l. l ++ filter q (n ∷ [])) (none_between q m n k (λ x i l. none x i (omega (arith, l))))
+    ∙ ap (λ t. filter q (below m) ++ cond t (n ∷ []) []) (none n k (omega arith)) ∙ append-nil (filter q (below m)))
+    (cases_lt n m)
 
 -- Steps -----------------------------------------------------------------------------------------------------------------
 

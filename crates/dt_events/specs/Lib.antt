@@ -1,3 +1,4 @@
+pub mod Candidates
 pub mod Conflicts
 pub mod Events
 pub mod JobLaws

@@ -3,9 +3,10 @@
 ghost use Rattle.std.specs.Prelude.{◌≡◌, ◌<◌, length};
 ghost use Rattle.std.specs.List.{list_any, AllByRecursion};
 ghost use Rattle.dt_plan.specs.declared.ops.Op.{Op};
-ghost use Rattle.dt_events.specs.Conflicts.{have_common, is_same_buffer, may_swap, some_meet, touches_meet};
+ghost use Rattle.dt_plan.specs.Plans.{IsPlan};
+ghost use Rattle.dt_events.specs.Conflicts.{HasSegments, have_common, is_same_buffer, may_swap, segment_of, some_meet, touches_meet};
 
-use dt_plan::{Buffer, Mode, Touch};
+use dt_plan::{Buffer, Mode, Plan, Touch};
 
 /// Two reads of a word may come in either order, and so may two folds into it.
 fn may_swap(a: Mode, b: Mode) -> bool
@@ -64,4 +65,21 @@ fn meets_any(x: &Touch, ys: &[Touch]) -> bool
     ensures { result ≡ list_any (touches_meet x.now) ys.now }
 {
     ys.iter().any(|y| touches_meet(x, y))
+}
+
+/// The barrier segment of an operation's statement.
+pub(crate) fn segment_of(plan: &Plan, op: u32) -> u32
+    requires segments { HasSegments plan.now }
+    requires op { op < length plan.now.ops }
+    ensures { result ≡ segment_of plan.now op }
+{
+    plan.segment(plan.ops()[op as usize].stmt)
+}
+
+/// How many operations a plan has.
+pub(crate) fn op_count(plan: &Plan) -> u32
+    ensures count { result ≡ length plan.now.ops }
+    ensures plan { IsPlan plan.now }
+{
+    plan.ops().len() as u32
 }

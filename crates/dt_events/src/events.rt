@@ -2,12 +2,13 @@
 
 ghost use Rattle.std.specs.Prelude.{◌≡◌, ◌<◌, ◌≤◌, ◌++◌, ◌∷◌, [], length, filter, nat_lt, not, ◌&&◌, if◌then◌else◌, Err, IfOk, OnOk};
 ghost use Rattle.std.specs.List.{All, list_any};
-ghost use Rattle.dt_plan.specs.Plans.{IsPlan};
+ghost use Rattle.dt_events.specs.Candidates.{AreCandidates};
 ghost use Rattle.dt_events.specs.Conflicts.{HasSegments, conflict, segment_of};
 ghost use Rattle.dt_events.specs.Events.{event_limit, events_from, events_of};
 ghost use Rattle.dt_events.specs.declared.events_end.EventsEnd.TheVariants.{TooManyEvents};
 
-use crate::conflicts::some_meet;
+use crate::candidates::{Candidates, candidates_of, next_candidate};
+use crate::conflicts::{op_count, segment_of, some_meet};
 use crate::events_end::EventsEnd;
 use dt_plan::Plan;
 use std::alloc::Global;
@@ -37,15 +38,6 @@ impl Events {
     {
         self.pairs.as_slice()
     }
-}
-
-/// The barrier segment of an operation's statement.
-fn segment_of(plan: &Plan, op: u32) -> u32
-    requires segments { HasSegments plan.now }
-    requires op { op < length plan.now.ops }
-    ensures { result ≡ segment_of plan.now op }
-{
-    plan.segment(plan.ops()[op as usize].stmt)
 }
 
 /// Whether two operations conflict.
@@ -86,14 +78,6 @@ fn is_nearest(plan: &Plan, conflicts: bool, met: &[u32], op: u32) -> bool
     conflicts && !has_conflict(plan, met, op)
 }
 
-/// How many operations a plan has.
-fn op_count(plan: &Plan) -> u32
-    ensures count { result ≡ length plan.now.ops }
-    ensures plan { IsPlan plan.now }
-{
-    plan.ops().len() as u32
-}
-
 /// Puts a pair at the end where it is an event.
 fn push_event(
     pairs: &mut Vec<(u32, u32)>,
@@ -126,23 +110,26 @@ fn push_if(numbers: &mut Vec<u32>, number: u32, passes: bool) -> Result<(), Even
     Ok(())
 }
 
-/// Puts the events of an operation with later ones at the end. `met` are the later operations so far that conflict with it.
+/// Puts the events of an operation with later ones at the end, which are looked at from near to far. `met` are those so far that
+/// conflict with it.
 fn push_events(
     alloc: Global,
     plan: &Plan,
+    candidates: &Candidates,
     first: u32,
     pairs: &mut Vec<(u32, u32)>,
 ) -> Result<(), EventsEnd>
     requires segments { HasSegments plan.now }
+    requires candidates { AreCandidates plan.now candidates.now }
     requires first { first < length plan.now.ops }
     requires within { length pairs.old.items ≤ event_limit }
     ensures ok { OnOk result (pairs.new.items ≡ pairs.old.items ++ events_from plan.now first) }
     ensures within { OnOk result (length pairs.new.items ≤ event_limit) }
     ensures many { result ≡ Err TooManyEvents → event_limit < length (pairs.old.items ++ events_from plan.now first) }
 {
-    let count = op_count(plan);
     let mut met = Vec::new(alloc);
-    for second in first + 1..count {
+    let mut last = first;
+    while let Some(second) = next_candidate(plan, candidates, first, last) {
         let conflicts = conflict(plan, first, second);
         let is_event = is_nearest(plan, conflicts, met.as_slice(), second);
         match push_event(pairs, (first, second), is_event) {
@@ -150,6 +137,7 @@ fn push_events(
             Err(end) => return Err(end),
         }
         push_if(&mut met, second, conflicts)?;
+        last = second;
     }
     Ok(())
 }
@@ -162,9 +150,10 @@ pub fn events_of(alloc: Global, plan: &Plan) -> Result<Events, EventsEnd>
     ensures many { result ≡ Err TooManyEvents → event_limit < length (events_of plan.now) }
 {
     let count = op_count(plan);
+    let candidates = candidates_of(alloc, plan)?;
     let mut pairs = Vec::new(alloc);
     for first in 0..count {
-        match push_events(alloc, plan, first, &mut pairs) {
+        match push_events(alloc, plan, &candidates, first, &mut pairs) {
             Ok(()) => {}
             Err(end) => return Err(end),
         }

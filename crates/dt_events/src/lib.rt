@@ -5,6 +5,7 @@
 //! `listings_run`, and of every order `every_order_of_a_job`, `orders_leave_the_numbers` and `live_words_are_bounded`.
 #![tactic(auto)]
 
+mod candidates;
 mod conflicts;
 mod events;
 mod events_end;

@@ -12,5 +12,6 @@ mod tests;
 mod tracker;
 
 pub use laws::{none_is_stuck, trackers_follow_orders};
+pub use rows::rows_of;
 pub use step::Step;
 pub use tracker::Tracker;

@@ -22,12 +22,9 @@ fn empty_rows(alloc: Global, count: u32) -> Result<Vec<Numbers>, NoMemory>
     Ok(rows)
 }
 
-/// For each operation those that an event leads to, in the order of the events.
-pub(crate) fn rows_of(
-    alloc: Global,
-    count: u32,
-    events: &[(u32, u32)],
-) -> Result<Vec<Numbers>, NoMemory>
+/// For each operation those that an event leads to, in the order of the events. More generally, for each number below `count` the
+/// second numbers of the pairs that begin with it.
+pub fn rows_of(alloc: Global, count: u32, events: &[(u32, u32)]) -> Result<Vec<Numbers>, NoMemory>
     requires { All (λ (e : ℕ × ℕ). e.0 < count) events.now }
     ensures { IfOk result (λ rows. rows.items ≡ map (followers_in events.now) (below count)) }
 {

@@ -26,3 +26,27 @@ returns-in-Err-clause-many c e =
     let many : event_limit < length (flat_map g (below (n + 1))) = subst (λ (l : List (ℕ × ℕ)). event_limit < length l) is (c.in-Err.ensures.many (same_end c.in-Err.end TooManyEvents e)) in
     let fewer = fewer_made g (n + 1) (length p.ops) (omega (arith, c.op_count-count.ensures.count, c.loop-first-test.true)) in
     omega (arith, many, fewer)
+
+pub loop-first-init : goal.loop-first-init
+loop-first-init c =
+    let none = ap (λ (l : List (ℕ × ℕ)). length l) c.new-pairs.ensures.items in
+    record {
+      pairs = c.new-pairs.ensures.items;
+      within = omega (arith, none);
+    }
+
+pub loop-first-preserved : goal.loop-first-preserved
+loop-first-preserved c =
+    let p = c.args.plan.now in
+    let n = c.loop-first.first in
+    let g : ℕ → List (ℕ × ℕ) = events_from p in
+    record {
+      pairs = c.in-Ok.ensures.ok ∙ ap (λ (l : List (ℕ × ℕ)). l ++ g n) c.loop-first.invariant.pairs ∙ one_more g n;
+      within = c.in-Ok.ensures.within;
+    }
+
+pub returns-clause-pairs : goal.returns-clause-pairs
+returns-clause-pairs c =
+    let p = c.args.plan.now in
+    let end : c.loop-first.first ≡ length p.ops = omega (arith, c.op_count-count.ensures.count, c.loop-first.auto.first-end, c.loop-first-test.false) in
+    c.loop-first.invariant.pairs ∙ ap (λ k. flat_map (events_from p) (below k)) end
