@@ -1,11 +1,10 @@
 -- Whole tensors as they are stored with dense levels.
-use Rattle.std.proofs.Common.{◌≡◌, ℕ, zero, suc, ◌<◌, List, [], ◌∷◌, length, get_or, map, All, Option, Some, refl, sym, ap, ◌∙◌, arith, slice_get, unwrap_or}
+use Rattle.std.proofs.Common.{◌≡◌, ℕ, suc, ◌<◌, List, [], ◌∷◌, length, map, All, Option, refl, sym, ap, ◌∙◌, arith, slice_get, unwrap_or}
 use Rattle.std.specs.List.{AllByRecursion, zip}
 use Rattle.std.specs.Option.{option_and_then}
 use Rattle.std.proofs.lemmas.List.{length-map, get_or-map, ext_get_or}
 use Rattle.std.proofs.lemmas.Option.{unwrap_or-slice_get}
 use Rattle.dt_base.specs.Ranges.{assignments}
-use Rattle.dt_base.specs.Rows.{row_major, product}
 use Rattle.dt_base.proofs.Assignments.{length-assignments, row_major-assignment}
 use Rattle.dt_model.specs.Positions.{StoredTensor}
 use Rattle.dt_model.specs.Stmts.{shapes_of}

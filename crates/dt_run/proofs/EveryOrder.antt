@@ -1,5 +1,5 @@
 -- Every order of a job that is run: defined, within the bounds, with the statements' final numbers at its end.
-use Rattle.std.proofs.Common.{◌≡◌, ℕ, List, [], ◌++◌, append-nil, length, map, Option, None, Some, Result, Ok, Err, refl, sym, ap, ◌∙◌, subst}
+use Rattle.std.proofs.Common.{◌≡◌, ℕ, List, ◌++◌, append-nil, length, map, Option, None, Some, Result, Ok, Err, refl, sym, ap, ◌∙◌, subst}
 use Rattle.std.specs.Prelude.{IfOk, IfSome}
 use Rattle.std.specs.Io.KnownBytes.{Consumes, IsAtEnd}
 use Rattle.std.specs.List.{AllByRecursion, zip}
@@ -14,7 +14,7 @@ use Rattle.dt_argument.specs.Orders.{IsAllowed, counts_of}
 use Rattle.dt_plan.specs.Layouts.{Layout}
 use Rattle.dt_plan.specs.declared.parts.Part.{Part}
 use Rattle.dt_events.specs.Jobs.{state_of, at_of}
-use Rattle.dt_events.specs.Placed.{AreNumbers, numbers_after_all}
+use Rattle.dt_events.specs.Placed.{numbers_after_all}
 use Rattle.dt_events.proofs.JobRuns.{allowed_run, allowed_turns, complete_leave, parts_done, seconds}
 use Rattle.dt_events.proofs.LiveBounds.{live_bounded}
 use Rattle.dt_job.specs.Jobs.{IsJob}

@@ -1,29 +1,26 @@
 -- The numbers after all parts are those of the tensors after all statements.
 use Rattle.std.proofs.Common.{◌≡◌, ℕ, ◌+◌, ◌%◌, ◌^◌, ◌<◌, Bool, true, false, List, [], ◌∷◌, length, get_or, map, Option, Some, None, is_some, arith, refl, sym, ap, ◌∙◌, subst, eqb-true, eq-eqb, unwrap_or, option_map, slice_get, slice_set, nat_eq, if◌then◌else◌}
 use Rattle.std.specs.Option.{option_and_then}
-use Rattle.std.specs.List.{AllByRecursion, zip}
+use Rattle.std.specs.List.{AllByRecursion}
 use Rattle.std.proofs.Math.Path.{fun_ext}
-use Rattle.std.proofs.lemmas.List.{length-map}
 use Rattle.std.proofs.lemmas.Option.{slice_get-get_or, slice_get-map, unwrap_or-slice_get}
-use Rattle.dt_base.specs.Ranges.{assignments, below}
 use Rattle.dt_base.specs.Rows.{row_major}
 use Rattle.dt_base.proofs.Assignments.{position-assignments}
-use Rattle.dt_base.proofs.Ranges.{length-below}
 use Rattle.dt_model.specs.Positions.{StoredTensor, place_in, tensor_at}
 use Rattle.dt_model.specs.Stmts.{shapes_of, IsIndex}
-use Rattle.dt_model.specs.Value.{final_of, left_after, number_after as number_of_stmt, tensors_after, value_of}
+use Rattle.dt_model.specs.Value.{final_of, left_after, number_after as number_of_stmt, tensors_after}
 use Rattle.dt_model.specs.WholeTensor.{WholeTensor, number_at, zero_tensor}
 use Rattle.dt_model.specs.declared.stmt.Stmt.{Stmt}
 use Rattle.dt_nest.specs.Effects.{sum_over}
 use Rattle.dt_nest.specs.Meaning.{Entries}
 use Rattle.dt_nest.specs.Outputs.{output_of}
-use Rattle.dt_nest.specs.World.{entries_of, sum_of}
+use Rattle.dt_nest.specs.World.{entries_of}
 use Rattle.dt_nest.proofs.Inside.{length_shapes}
 use Rattle.dt_nest.proofs.RootApart.{output_below}
 use Rattle.dt_plan.specs.Layouts.{Layout}
 use Rattle.dt_plan.specs.declared.parts.Part.{Part}
 use Rattle.dt_events.specs.Placed.{IsPlaced, AreNumbers, numbers_after, numbers_after_all}
-use Rattle.dt_events.proofs.JobRuns.{IsDone, seconds}
+use Rattle.dt_events.proofs.JobRuns.{IsDone}
 use Rattle.dt_events.proofs.JobSums.{numbers_go_on}
 use Rattle.dt_tensor.specs.Packed.{dense_levels}
 use Rattle.dt_tensor.proofs.Tables.{table-there}

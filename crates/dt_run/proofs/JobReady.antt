@@ -1,5 +1,5 @@
 -- A job whose plan passes no limit is ready to run.
-use Rattle.std.proofs.Common.{◌≡◌, ℕ, zero, suc, ◌<◌, ◌≤◌, ◌^◌, Bool, true, false, List, [], ◌∷◌, length, get_or, map, Option, Some, None, arith, refl, sym, ap, ◌∙◌, subst, inl, inr, unwrap_or, option_map, slice_get, slice_index}
+use Rattle.std.proofs.Common.{◌≡◌, ℕ, zero, suc, ◌<◌, ◌≤◌, ◌^◌, true, false, List, [], ◌∷◌, length, get_or, map, Option, Some, None, arith, refl, sym, ap, ◌∙◌, subst, inl, inr, unwrap_or, option_map, slice_get, slice_index}
 use Rattle.std.specs.Option.{option_and_then}
 use Rattle.std.specs.List.{AllByRecursion, zip, list_any}
 use Rattle.std.proofs.lemmas.Bool.{cases_lt, ltb-false}
@@ -7,33 +7,31 @@ use Rattle.std.proofs.lemmas.List.{get_or_past, length-map}
 use Rattle.std.proofs.lemmas.Option.{unwrap_or-slice_get}
 use Rattle.dt_base.specs.Rows.{row_major}
 use Rattle.dt_runs.specs.Sets.{contains}
-use Rattle.dt_model.specs.Positions.{StoredTensor, IsStored, place_in, coords_at, tensor_at}
+use Rattle.dt_model.specs.Positions.{StoredTensor, IsStored, place_in, tensor_at}
 use Rattle.dt_model.specs.WholeTensor.{WholeTensor, number_at}
 use Rattle.dt_model.specs.declared.stmt.Stmt.{Stmt}
 use Rattle.dt_model.proofs.PositionFacts.{ordered_positions}
 use Rattle.dt_nest.specs.World.{entries_of}
 use Rattle.dt_nest.specs.Lawful.{IsLawful}
-use Rattle.dt_nest.specs.Outputs.{output_of, IsUnread}
+use Rattle.dt_nest.specs.Outputs.{IsUnread}
 use Rattle.dt_nest.proofs.Each.{all_get, all_of}
 use Rattle.dt_bounds.proofs.PathInside.{visits_have_left}
 use Rattle.dt_copy.specs.Sources.{home_at}
 use Rattle.dt_place.specs.Homes.{homes_on}
 use Rattle.dt_place.specs.HomeLaws.{CoverTogether}
-use Rattle.dt_place.specs.Machines.{MachineView, IsMachine, nodes_of, dims_of}
+use Rattle.dt_place.specs.Machines.{MachineView, IsMachine, dims_of}
 use Rattle.dt_place.specs.Placements.{IsPlacement}
 use Rattle.dt_place.specs.declared.placements.Placement.{Placement}
 use Rattle.dt_place.specs.declared.placements.Placement.TheVariants.{FirstNode}
 use Rattle.dt_place.proofs.HomeLists.{homes_cover}
 use Rattle.dt_plan.specs.Layouts.{Layout, layout_of, homes_at}
-use Rattle.dt_plan.specs.Limits.{has_too_many_visits, visit_count, visit_limit}
-use Rattle.dt_plan.specs.ListingLaws.{IsLayout}
+use Rattle.dt_plan.specs.Limits.{visit_count, visit_limit}
 use Rattle.dt_plan.specs.declared.parts.Part.{Part}
 use Rattle.dt_events.specs.ListingRuns.{IsReady}
 use Rattle.dt_events.specs.Placed.{IsPlaced, CanRun, AreNumbers}
 use Rattle.dt_events.specs.StateLaws.{IsRunnable}
-use Rattle.dt_tensor.specs.Packed.{Packed, stored_of, whole_of, number_in, dense_levels}
+use Rattle.dt_tensor.specs.Packed.{Packed, stored_of, whole_of, number_in}
 use Rattle.dt_tensor.proofs.Tables.{table-there}
-use Rattle.dt_job.specs.Jobs.{IsJob}
 use Rattle.dt_job.specs.JobTensors.{IsJobTensor}
 use Rattle.dt_job.specs.PartsOf.{IsPartOf, ArePartsOf}
 use Rattle.dt_job.specs.Read.{StatedJob}
@@ -41,7 +39,7 @@ use Rattle.dt_job.proofs.JobTensorFacts.{job_stored}
 use Rattle.dt_job.proofs.JobPlans.{job_placed}
 use Rattle.dt_run.specs.EveryOrder.{AreWords, IsAccepted, given_numbers}
 use Rattle.dt_run.specs.Outcome.{given_of}
-use Rattle.dt_run.specs.Planning.{job_layout, limit_of}
+use Rattle.dt_run.specs.Planning.{job_layout}
 use Rattle.dt_run.specs.Running.{AreOver, AreWorkless}
 use Rattle.dt_run.proofs.GivenTensors.{given_over}
 use Rattle.dt_run.proofs.OverStored.{fits_over}

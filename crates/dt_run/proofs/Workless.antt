@@ -1,5 +1,5 @@
 -- The parts of a job have no workspaces: no line of a text makes any.
-use Rattle.std.proofs.Common.{◌≡◌, ℕ, zero, suc, ◌+◌, Bool, true, false, List, [], ◌∷◌, ◌++◌, map, Option, Some, None, IfSome, is_some, option_map, not, ◌&&◌, ◌==◌, length, nat_lt, replicate, Result, Ok, Err, IfOk, refl, sym, ap, ◌∙◌, subst, if◌then◌else◌, codes}
+use Rattle.std.proofs.Common.{◌≡◌, ℕ, ◌+◌, Bool, true, false, List, [], ◌∷◌, ◌++◌, map, Option, Some, None, IfSome, is_some, option_map, not, ◌&&◌, ◌==◌, length, nat_lt, replicate, Result, Ok, Err, IfOk, refl, ◌∙◌, subst, if◌then◌else◌, codes}
 use Rattle.std.specs.List.{AllByRecursion, list_all}
 use Rattle.std.specs.Str.{bytes_eq}
 use Rattle.dt_text.specs.Lines.{lines_of, plain_line}
@@ -18,7 +18,6 @@ use Rattle.dt_nest.specs.Schedule.{Schedule}
 use Rattle.dt_place.specs.MachineLine as machine_lines
 use Rattle.dt_place.specs.Machines.{MachineView, dims_of}
 use Rattle.dt_place.specs.PlaceLine.{form_of, placed_of}
-use Rattle.dt_plan.specs.declared.parts.Part.{Part}
 use Rattle.dt_schedule.specs.Commands.{command_line}
 use Rattle.dt_schedule.proofs.LineFacts.{line_works}
 use Rattle.dt_job.specs.Contents.{known_of, names_of, order_of, position_count_of, stored_of_all}
@@ -39,7 +38,7 @@ use Rattle.dt_job.specs.StmtLine.{scheduled_of, stmt_line}
 use Rattle.dt_job.specs.TensorLine.{declared_in, tensor_line, zeros_of}
 use Rattle.dt_job.specs.Phases.{is_whole, open_stmt, takes_declaration, takes_distal, takes_machine, takes_output, takes_stmt}
 use Rattle.dt_job.specs.Shapes.{are_numerals, extent_words, is_dense_letter, level_words, numeral_of}
-use Rattle.dt_job.specs.Read.{StatedJob, job_of, job_on, lines_from, numbered, stmts_of, then_lines, whole_job}
+use Rattle.dt_job.specs.Read.{StatedJob, job_of, job_on, lines_from, numbered, stmts_of, then_lines}
 use Rattle.dt_job.specs.declared.fills.Fill.{Fill}
 use Rattle.dt_run.specs.Running.{AreWorkless}
 

@@ -7,7 +7,6 @@ use Rattle.dt_nest.specs.Meaning.{Entries}
 use Rattle.dt_nest.specs.World.{entries_of}
 use Rattle.dt_place.specs.Machines.{IsMachine}
 use Rattle.dt_plan.specs.Bounds.{bound_of}
-use Rattle.dt_plan.specs.Layouts.{Layout}
 use Rattle.dt_plan.specs.Operations.{ops_of}
 use Rattle.dt_plan.specs.declared.parts.Part.{Part}
 use Rattle.dt_argument.specs.Listings.{Listing}
@@ -19,7 +18,6 @@ use Rattle.dt_events.specs.Units.{can_do}
 use Rattle.dt_tensor.specs.Packed.{Packed}
 use Rattle.dt_job.specs.Jobs.{IsJob}
 use Rattle.dt_job.specs.Read.{StatedJob, job_of}
-use Rattle.dt_job.specs.declared.job.Job.{Job}
 use Rattle.dt_run.specs.Outcome.{given_of}
 use Rattle.dt_run.specs.Planning.{job_layout, limit_of}
 use Rattle.dt_run.specs.Running.{AreWorkless}

@@ -19,7 +19,7 @@ use Rattle.dt_events.specs.State.{State}
 use Rattle.dt_events.specs.Units.{can_by, item_can, item_next, next_by, of_unit}
 use Rattle.dt_sim.specs.Memories.{memory_at, state_in}
 use Rattle.dt_sim.specs.TaskItems.{IsItemDue, IsTaskOver}
-use Rattle.dt_sim.specs.UnitsDone.{DoesUnit, IsDue, rooms_of}
+use Rattle.dt_sim.specs.UnitsDone.{DoesUnit, IsDue}
 use Rattle.dt_sim.proofs.Rooms.{room_of}
 use Rattle.dt_sim.proofs.TaskDone.{item_done, item_ready}
 

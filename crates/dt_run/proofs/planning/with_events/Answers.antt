@@ -1,4 +1,4 @@
-use Rattle.std.proofs.Common.{◌≡◌, ℕ, ◌<◌, ◌≤◌, List, length, Err, ap, sym, subst}
+use Rattle.std.proofs.Common.{ℕ, ◌<◌, ◌≤◌, List, length, Err, ap, sym, subst}
 use Rattle.dt_plan.specs.Limits.{PlanView}
 use Rattle.dt_events.specs.Events.{event_limit, events_of}
 use Rattle.dt_run.proofs.PlanAnswers.{few_events, many_events, plan_made}

@@ -1,4 +1,4 @@
-use Rattle.std.proofs.Common.{List, ℕ, map, string_bytes, subst, sym, ◌∙◌}
+use Rattle.std.proofs.Common.{map, string_bytes, subst, sym, ◌∙◌}
 use Rattle.dt_run.specs.EveryOrder.{HaveOrders}
 use Rattle.dt_run.specs.Forms.{form_of}
 use Rattle.dt_run.proofs.EveryOrder.{asked_have}

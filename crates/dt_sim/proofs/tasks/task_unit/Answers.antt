@@ -1,7 +1,5 @@
-use Rattle.std.proofs.Common.{◌≡◌, List, ap, sym}
-use Rattle.dt_model.specs.Positions.{StoredTensor}
+use Rattle.std.proofs.Common.{ap}
 use Rattle.dt_plan.specs.Layouts.{Layout}
-use Rattle.dt_plan.specs.declared.parts.Part.{Part}
 use Rattle.dt_sim.proofs.TaskUnits.{can_do_last, does_unit, has_room}
 use Rattle.dt_sim.proofs.tasks.task_unit.Goals as goal
 
