@@ -1,10 +1,21 @@
-//! Limits of plans, at the last number within them and one past it.
+//! Limits of plans: the most operations, one statement more, and too many visits.
 
 use crate::plans::{Planned, job_plan, put_counts};
 use dt_base::{Bytes, NoMemory};
 use dt_plan::PlanEnd;
 use std::alloc::Global;
 use std::test::Fail;
+
+/// Loops of 1, 2,048, 1 and 2,049: 2,048 visits past the limit.
+const MORE_VISITS: &[u8] = b"distal 1
+machine 1
+tensor a 1x1
+tensor b 1x1
+stmt a(i,j) = b(i,j)
+split i io ii 2048
+split j jo ji 2049
+end
+";
 
 /// Two vectors on 64 nodes.
 const VECTORS: &[u8] = b"distal 1
@@ -58,6 +69,7 @@ fn the_first_limit_that_is_passed_is_told(rt: HostRuntime) -> Result<(), Fail> {
     let full = statements(rt.alloc(), 16)?;
     let past = statements(rt.alloc(), 17)?;
     let rows = [
+        (MORE_VISITS, "TooManyVisits"),
         (full.as_slice(), "ops 8192 units 8192"),
         (past.as_slice(), "TooManyOps"),
     ];
