@@ -2,84 +2,14 @@
 
 use crate::matrices::sparse_matrix;
 use crate::statements::needed_in;
-use dt_base::{Extents, NoMemory, Vars};
-use dt_model::{Access, Factor, Factors, Shape, Stmt, Term, Terms};
+use crate::written::{Part, Written, statement, zero, zeros};
 use dt_runs::Runs;
-use dt_tensor::{Tensor, Tensors};
+use dt_tensor::Tensors;
 use std::alloc::Global;
 use std::test::Fail;
 
-/// A factor: a tensor at these variables, or a literal.
-#[derive(Clone, Copy)]
-enum Part<'a> {
-    At(u32, &'a [u32]),
-    Number(u64),
-}
-
-/// A statement over tensors of these shapes.
-#[derive(Clone, Copy)]
-struct Written<'a> {
-    extents: &'a [u32],
-    shapes: &'a [&'a [u32]],
-    left: (u32, &'a [u32]),
-    adds: bool,
-    terms: &'a [&'a [Part<'a>]],
-}
-
 /// A path, a tensor, and the positions that are needed of it in the visits that extend the path.
 type Row<'a> = (&'a [u32], u32, &'a [u32]);
-
-fn access(alloc: Global, tensor: u32, vars: &[u32]) -> Result<Access, NoMemory> {
-    let vars = Vars::from_slice(alloc, vars)?;
-    Ok(Access { tensor, vars })
-}
-
-fn term(alloc: Global, parts: &[Part]) -> Result<Term, NoMemory> {
-    let mut factors = Factors::new(alloc);
-    for part in parts {
-        let factor = match *part {
-            Part::Number(n) => Factor::Literal(n),
-            Part::At(tensor, vars) => Factor::Read(access(alloc, tensor, vars)?),
-        };
-        factors.push(factor)?;
-    }
-    Ok(Term {
-        minus: false,
-        factors,
-    })
-}
-
-fn statement(alloc: Global, written: &Written) -> Result<Stmt, NoMemory> {
-    let (tensor, vars) = written.left;
-    let mut terms = Terms::new(alloc);
-    for parts in written.terms {
-        terms.push(term(alloc, *parts)?)?;
-    }
-    Ok(Stmt {
-        lhs: access(alloc, tensor, vars)?,
-        adds: written.adds,
-        terms,
-        extents: Extents::from_slice(alloc, written.extents)?,
-    })
-}
-
-/// Tensors of these shapes, with no number but 0.
-fn zeros(alloc: Global, shapes: &[&[u32]]) -> Result<Tensors, Fail> {
-    let mut list = Vec::new(alloc);
-    for extents in shapes {
-        list.push(zero(alloc, *extents)?)?;
-    }
-    Ok(Tensors::from_list(list))
-}
-
-fn zero(alloc: Global, extents: &[u32]) -> Result<Tensor, Fail> {
-    let shape = Shape::from_extents(extents).ok_or("no shape")?;
-    let count = shape.count();
-    if count > 1048576 {
-        return Err("too many")?;
-    }
-    Ok(Tensor::dense(shape, vec![in alloc; 0u64; count as usize]?))
-}
 
 /// Whether the set has these numbers, which ascend.
 fn has(runs: &Runs, positions: &[u32]) -> bool {

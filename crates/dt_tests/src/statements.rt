@@ -1,11 +1,12 @@
 //! The schedules of statements over a few tensors, for tests.
 
-ghost use Rattle.std.specs.Prelude.{◌≡◌, ℕ, ◌+◌, ◌≤◌, List, length, map, IfOk};
+ghost use Rattle.std.specs.Prelude.{◌≡◌, ℕ, ◌+◌, ◌≤◌, List, length, map, IfOk, IfSome};
 ghost use Rattle.std.specs.List.{AllByRecursion, IsDistinct};
 ghost use Rattle.std.specs.Str.{bytes_eq};
 ghost use Rattle.dt_model.specs.Stmts.{IsStmt, shapes_of};
 ghost use Rattle.dt_nest.specs.Chain.{stmt_schedule};
-ghost use Rattle.dt_tensor.specs.Packed.{IsPacked};
+ghost use Rattle.dt_nest.specs.FitsStored.{FitsStored};
+ghost use Rattle.dt_tensor.specs.Packed.{IsPacked, stored_of};
 
 use dt_base::{Name, Names, NoMemory};
 use dt_bounds::{is_path, needed};
@@ -52,6 +53,21 @@ fn schedule(alloc: Global, stmt: &Stmt, wholes: &[Whole]) -> Result<Sched, NoMem
     Sched::of_stmt(alloc, stmt, &vars, &names)
 }
 
+/// The schedule of a statement over these tensors, and none where it isn't one over them.
+pub fn schedule_in(alloc: Global, stmt: &Stmt, tensors: &Tensors) -> Result<Option<Sched>, NoMemory>
+    ensures { IfOk result (λ o. IfSome o (λ sched. FitsStored (map stored_of tensors.now) sched)) }
+{
+    let wholes = wholes(alloc, tensors.as_slice())?;
+    if wholes.len() > 9 {
+        return Ok(None);
+    }
+    if !is_stmt(stmt, wholes.as_slice()) {
+        return Ok(None);
+    }
+    let sched = schedule(alloc, stmt, wholes.as_slice())?;
+    Ok(Some(sched))
+}
+
 /// The needed words of a tensor in the statement's schedule, and none where the statement isn't one over the tensors,
 /// the path isn't one of the schedule or the tensor isn't there.
 pub fn needed_in(
@@ -61,14 +77,12 @@ pub fn needed_in(
     tensor: u32,
     path: &[u32],
 ) -> Result<Option<Runs>, NoMemory> {
-    let wholes = wholes(alloc, tensors.as_slice())?;
-    if wholes.len() > 9 || tensor as usize >= tensors.len() {
+    if tensor as usize >= tensors.len() {
         return Ok(None);
     }
-    if !is_stmt(stmt, wholes.as_slice()) {
+    let Some(sched) = schedule_in(alloc, stmt, tensors)? else {
         return Ok(None);
-    }
-    let sched = schedule(alloc, stmt, wholes.as_slice())?;
+    };
     if !is_path(&sched, path) {
         return Ok(None);
     }
