@@ -29,7 +29,7 @@ unplaced c e = sym (position-assignments (2 ∷ 2 ∷ []) c) ∙ e
 -- Numbers --------------------------------------------------------------------------------------------------------------------
 
 -- what is small in a list is small at each place
-each_small : (vs : List ℕ) → AllByRecursion (λ v. v < 2 ^ 64) vs → (i : ℕ) → slice_index vs i < 2 ^ 64
+pub each_small : (vs : List ℕ) → AllByRecursion (λ v. v < 2 ^ 64) vs → (i : ℕ) → slice_index vs i < 2 ^ 64
 each_small [] h i = omega arith
 each_small (v ∷ vs) h zero = h.0
 each_small (v ∷ vs) h (suc i) = each_small vs h.1 i

@@ -30,6 +30,7 @@ use Rattle.dt_plan.specs.declared.parts.Part.{Part}
 use Rattle.dt_events.specs.ListingRuns.{IsReady}
 use Rattle.dt_events.specs.Placed.{IsPlaced, CanRun, AreNumbers}
 use Rattle.dt_events.specs.StateLaws.{IsRunnable}
+use Rattle.dt_events.proofs.WorkedRuns.{each_small}
 use Rattle.dt_tensor.specs.Packed.{Packed, stored_of, whole_of, number_in}
 use Rattle.dt_tensor.proofs.Tables.{table-there}
 use Rattle.dt_job.specs.JobTensors.{IsJobTensor}
@@ -131,19 +132,13 @@ module _ (l : Layout) (dims : List ℕ) (names : List (List ℕ)) (ts : List Who
 
 -- Numbers ----------------------------------------------------------------------------------------------------------------------
 
--- a list of small numbers has small ones at each place
-small_at : (vs : List ℕ) → AllByRecursion (λ v. v < 2 ^ 64) vs → (k : ℕ) → slice_index vs k < 2 ^ 64
-small_at [] h k = omega arith
-small_at (v ∷ vs) h zero = h.0
-small_at (v ∷ vs) h (suc k) = small_at vs h.1 k
-
 -- a tensor of small numbers has small ones at all coordinates
 number_small : (t : Packed) → AllByRecursion (λ v. v < 2 ^ 64) t.values → (c : List ℕ) → number_in t c < 2 ^ 64
 number_small t h c = go (place_in (stored_of t) c)
   where
     go : (o : Option ℕ) → unwrap_or (option_map (slice_index t.values) o) 0 < 2 ^ 64
     go None = omega arith
-    go (Some k) = small_at t.values h k
+    go (Some k) = each_small t.values h k
 
 -- so has the whole one
 whole_small : (t : Packed) → AllByRecursion (λ v. v < 2 ^ 64) t.values → (c : List ℕ) → ◌<◌ (unwrap_or (number_at (whole_of t) c) 0) (2 ^ 64)

@@ -8,6 +8,6 @@ use Rattle.dt_run.specs.declared.planning.Planned.{Planned}
 use Rattle.dt_run.specs.declared.planning.Planned.TheVariants.{Made, Passes}
 
 -- the layout's plan and its events, where no limit is passed; else the first one that is
-abbrev pub IsPlanned : Layout → Planned → Type 0
-IsPlanned l (Made plan events) = (limit_of l ≡ None) × (plan ≡ plan_view l) × (events ≡ events_of plan)
-IsPlanned l (Passes cause) = limit_of l ≡ Some cause
+abbrev pub IsPlanOrLimit : Layout → Planned → Type 0
+IsPlanOrLimit l (Made plan events) = (limit_of l ≡ None) × (plan ≡ plan_view l) × (events ≡ events_of plan)
+IsPlanOrLimit l (Passes cause) = limit_of l ≡ Some cause

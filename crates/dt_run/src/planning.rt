@@ -5,7 +5,7 @@ ghost use Rattle.dt_model.specs.declared.stmt.Stmt.{Stmt};
 ghost use Rattle.dt_plan.specs.Layouts.{Layout};
 ghost use Rattle.dt_plan.specs.Limits.{plan_of as plan_in};
 ghost use Rattle.dt_job.specs.Jobs.{IsJob};
-ghost use Rattle.dt_run.specs.Planned.{IsPlanned};
+ghost use Rattle.dt_run.specs.Planned.{IsPlanOrLimit};
 ghost use Rattle.dt_run.specs.Planning.{job_layout, limit_at};
 
 use dt_base::NoMemory;
@@ -39,7 +39,7 @@ fn limit_at(end: PlanEnd) -> Option<PlanCause>
 
 /// The plan with its events, unless it has too many.
 fn with_events(alloc: Global, plan: Plan) -> Result<Planned, NoMemory>
-    ensures { IfOk result (λ p. (l : Layout) → plan_in l ≡ Ok plan → IsPlanned l p) }
+    ensures { IfOk result (λ p. (l : Layout) → plan_in l ≡ Ok plan → IsPlanOrLimit l p) }
 {
     match events_of(alloc, &plan) {
         Ok(events) => Ok(Planned::Made(plan, events)),
@@ -51,7 +51,7 @@ fn with_events(alloc: Global, plan: Plan) -> Result<Planned, NoMemory>
 /// The job's plan and its events, or the first limit that they pass.
 pub fn plan_job(alloc: Global, job: &Job) -> Result<Planned, NoMemory>
     requires { (stmts : List Stmt) × IsJob stmts job.now }
-    ensures { IfOk result (λ p. IsPlanned (job_layout job.now) p) }
+    ensures { IfOk result (λ p. IsPlanOrLimit (job_layout job.now) p) }
 {
     let made = plan_of(
         alloc,

@@ -7,6 +7,7 @@ use Rattle.std.proofs.lemmas.Bool.{and_parts, lt-ltb, ne_eqb}
 use Rattle.std.proofs.lemmas.Grind.{common_steps}
 use Rattle.std.proofs.lemmas.List.{get_or-set_same, get_or-set_other}
 use Rattle.std.proofs.lemmas.List.Quantifiers.{position-Some}
+use Rattle.dt_argument.proofs.Shapes.{if_true, if_false}
 use Rattle.dt_mem.specs.Memory.{Held, Slot, changed, ended, folded, held_at, opened, place_of, value_at, with_more, with_value, written}
 use Rattle.dt_mem.proofs.MapLaws.{begins_with_zeros, ends_with_nothing, folds_one_word, other-changed, writes_one_word}
 use Rattle.dt_runs.specs.Sets.{contains}
@@ -84,15 +85,6 @@ folded_sign w d m k j = kept_sign (folded w d) (λ s. valued_sign (with_more w d
 
 -- Cells -----------------------------------------------------------------------------------------------------------------
 
--- a test that is met
-if_met : {A : Type 0} (b : Bool) (x y : A) → b ≡ true → (if b then x else y) ≡ x
-if_met true x y e = refl
-if_met false x y e = absurd (cc)
-
-if_failed : {A : Type 0} (b : Bool) (x y : A) → b ≡ false → (if b then x else y) ≡ y
-if_failed true x y e = absurd (cc)
-if_failed false x y e = refl
-
 -- what is chosen where a test is met
 if_same : {A : Type 0} (b : Bool) (x y z : A) → (b ≡ true → x ≡ y) → (if b then x else z) ≡ (if b then y else z)
 if_same true x y z h = h refl
@@ -151,9 +143,9 @@ beginnings_open buffers mems n k b words at there room = fun_ext cell
     cell : (c : Cell) → state_in buffers (changed_on (opened words) n k mems) c ≡ with_buffer n b words (state_in buffers mems) c
     cell (Word m c w) =
         at_cell buffers mems n k b at there (opened words) (λ x j. value_at x j w)
-        (λ j d. begins_with_zeros (memory_at mems n) k words room j w ∙ if_failed (nat_eq j k) (option_map (λ (i : ℕ). 0) (place_of words w)) (value_at (memory_at mems n) j w) (ne_eqb j k d)) m c
+        (λ j d. begins_with_zeros (memory_at mems n) k words room j w ∙ if_false (nat_eq j k) (option_map (λ (i : ℕ). 0) (place_of words w)) (value_at (memory_at mems n) j w) (ne_eqb j k d)) m c
         ∙ if_same (nat_eq n m && is_same_buffer b c) (value_at (changed (opened words) k (memory_at mems n)) k w) (if contains words w then Some 0 else None) (state_in buffers mems (Word m c w))
-        (λ e. begins_with_zeros (memory_at mems n) k words room k w ∙ if_met (nat_eq k k) (option_map (λ (i : ℕ). 0) (place_of words w)) (value_at (memory_at mems n) k w) (eq-eqb k k refl) ∙ zero_placed words w)
+        (λ e. begins_with_zeros (memory_at mems n) k words room k w ∙ if_true (nat_eq k k) (option_map (λ (i : ℕ). 0) (place_of words w)) (value_at (memory_at mems n) k w) (eq-eqb k k refl) ∙ zero_placed words w)
     cell (Sign m c) =
         at_cell buffers mems n k b at there (opened words) sign_at (λ j d. other_sign (opened words) (memory_at mems n) k j d) m c
         ∙ if_same (nat_eq n m && is_same_buffer b c) (sign_at (changed (opened words) k (memory_at mems n)) k) (Some 0) (state_in buffers mems (Sign m c)) (λ e. opened_sign words (memory_at mems n) k room)
@@ -165,9 +157,9 @@ ends_close buffers mems n k b at there = fun_ext cell
     cell : (c : Cell) → state_in buffers (changed_on ended n k mems) c ≡ without_buffer n b (state_in buffers mems) c
     cell (Word m c w) =
         at_cell buffers mems n k b at there ended (λ x j. value_at x j w)
-        (λ j d. ends_with_nothing (memory_at mems n) k j w ∙ if_failed (nat_eq j k) None (value_at (memory_at mems n) j w) (ne_eqb j k d)) m c
+        (λ j d. ends_with_nothing (memory_at mems n) k j w ∙ if_false (nat_eq j k) None (value_at (memory_at mems n) j w) (ne_eqb j k d)) m c
         ∙ if_same (nat_eq n m && is_same_buffer b c) (value_at (changed ended k (memory_at mems n)) k w) None (state_in buffers mems (Word m c w))
-        (λ e. ends_with_nothing (memory_at mems n) k k w ∙ if_met (nat_eq k k) None (value_at (memory_at mems n) k w) (eq-eqb k k refl))
+        (λ e. ends_with_nothing (memory_at mems n) k k w ∙ if_true (nat_eq k k) None (value_at (memory_at mems n) k w) (eq-eqb k k refl))
     cell (Sign m c) =
         at_cell buffers mems n k b at there ended sign_at (λ j d. other_sign ended (memory_at mems n) k j d) m c
         ∙ if_same (nat_eq n m && is_same_buffer b c) (sign_at (changed ended k (memory_at mems n)) k) None (state_in buffers mems (Sign m c)) (λ e. ended_sign (memory_at mems n) k)
